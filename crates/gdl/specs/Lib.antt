@@ -1,0 +1,9 @@
+pub mod Game
+pub mod Sets
+pub mod Standard
+pub mod Graph
+pub mod Truth
+pub mod Published
+pub mod Reach
+pub mod Flags
+pub mod Computed

@@ -1,0 +1,3 @@
+pub mod If
+pub mod Number
+pub mod Writing
