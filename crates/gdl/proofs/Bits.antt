@@ -1,10 +1,11 @@
--- The flags of the computed model are 0 or 1.
-use mathlib.Core.Path.{_≡_, refl}
+-- Lists of flags, each 0 or 1: two of one length that stand for the same set are equal, and the computed model is such a list.
+use mathlib.Core.Path.{_≡_, refl, sym, ap₂, subst, _∙_}
 use mathlib.Core.Logic.{_⊎_, inl, inr}
-use mathlib.Core.Bool.{Bool, true, false, _&&_, _||_, cond}
+use mathlib.Core.Bool.{Bool, true, false, cond}
 use mathlib.Core.List.{List, [], _∷_, map}
 use Prim.Native.Nat.{ℕ, zero, suc}
-use lib.Dec.{eqb}
+use native.Mathlib.Omega.{arith}
+use lib.Dec.{T, eqb}
 use lib.ListN.{length, getD, set}
 use Rattle.gdl.specs.Game.{Game, Clause, Atom}
 use Rattle.gdl.specs.Sets.{Atoms}
@@ -21,6 +22,18 @@ pub bits-at : (l : List ℕ) (i : ℕ) → Bits l → (getD l i 0 ≡ 0) ⊎ (ge
 bits-at [] i h = inl refl
 bits-at (x ∷ xs) zero h = h .0
 bits-at (x ∷ xs) (suc i) h = bits-at xs i (h .1)
+
+bit-same : (x y : ℕ) → (x ≡ 0) ⊎ (x ≡ 1) → (y ≡ 0) ⊎ (y ≡ 1) → eqb x 1 ≡ eqb y 1 → x ≡ y
+bit-same x y (inl a) (inl b) e = a ∙ sym b
+bit-same x y (inl a) (inr b) e = absurd (subst T (sym (rw (a, b) at e)) tt)
+bit-same x y (inr a) (inl b) e = absurd (subst T (rw (a, b) at e) tt)
+bit-same x y (inr a) (inr b) e = a ∙ sym b
+
+pub bits-same : (l m : List ℕ) → Bits l → Bits m → length l ≡ length m → ((p : ℕ) → on l p ≡ on m p) → l ≡ m
+bits-same [] [] h k e s = refl
+bits-same [] (y ∷ ys) h k e s = absurd (omega arith)
+bits-same (x ∷ xs) [] h k e s = absurd (omega arith)
+bits-same (x ∷ xs) (y ∷ ys) h k e s = ap₂ _∷_ (bit-same x y (h .0) (k .0) (s 0)) (bits-same xs ys (h .1) (k .1) (omega arith) (λ p. s (suc p)))
 
 set-bits : (l : List ℕ) (i : ℕ) → Bits l → Bits (set l i 1)
 set-bits [] i h = tt

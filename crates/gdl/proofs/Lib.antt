@@ -1,5 +1,13 @@
 pub mod Tests
 pub mod Closing
 pub mod Stable
-pub mod Model
+pub mod Modelling
+pub mod Depending
+pub mod Levelling
+pub mod Reading
 pub mod Bits
+pub mod Modelled
+pub mod Linking
+pub mod Reaching
+pub mod Agreeing
+pub mod Layouts

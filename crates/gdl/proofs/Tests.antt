@@ -1,13 +1,13 @@
 -- Laws of tests, of elements of a list, and of bodies.
-use mathlib.Core.Path.{_≡_, refl, sym, ap, subst, _∙_}
+use mathlib.Core.Path.{_≡_, refl, sym, subst}
 use mathlib.Core.Logic.{_⊎_, inl, inr}
 use mathlib.Core.Bool.{Bool, true, false, not, _&&_, _||_}
 use mathlib.Core.List.{List, [], _∷_, List·Memᴰ, List·Memᴰ·head, List·Memᴰ·tail}
-use Prim.Native.Nat.{ℕ, zero, suc, _≤_, _<_}
-use lib.Dec.{T, eqb, eqb-refl, leb, ltb}
-use Rattle.gdl.specs.Game.{Literal, pos, neg, Clause}
-use Rattle.gdl.specs.Sets.{Atoms, _⊆_, Closed, Least}
-use Rattle.gdl.specs.Standard.{literalHolds, bodyHolds}
+use Prim.Native.Nat.{ℕ}
+use lib.Dec.{T, eqb, eqb-refl}
+use Rattle.gdl.specs.Game.{Literal, pos, neg}
+use Rattle.gdl.specs.Sets.{Atoms, _⊆_}
+use Rattle.gdl.specs.Standard.{bodyHolds}
 
 pub eq→eqb : (m n : ℕ) → m ≡ n → T (eqb m n)
 eq→eqb m n e = subst (λ (k : ℕ). T (eqb m k)) e (eqb-refl m)
@@ -27,6 +27,10 @@ and-both false b s t = s
 pub and-elim : {P : Type 0} (a b : Bool) → (T a → T b → P) → T (a && b) → P
 and-elim true b f t = f tt t
 and-elim false b f t = absurd t
+
+pub and-agree : (a x y : Bool) → (T a → x ≡ y) → (a && x) ≡ (a && y)
+and-agree true x y f = f tt
+and-agree false x y f = refl
 
 pub or-left : (a b : Bool) → T a → T (a || b)
 or-left true b t = tt

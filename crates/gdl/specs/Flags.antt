@@ -1,7 +1,7 @@
 -- Sets of atoms as lists of flags, 0 or 1: how the code holds them.
 use mathlib.Core.Bool.{Bool, true, false}
 use mathlib.Core.List.{List, [], _∷_}
-use Prim.Native.Nat.{ℕ, zero, suc, _+_}
+use Prim.Native.Nat.{ℕ, _+_}
 use lib.Dec.{eqb}
 use lib.ListN.{getD, set, replicate}
 use Rattle.gdl.specs.Sets.{Atoms}

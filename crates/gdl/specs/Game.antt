@@ -1,6 +1,6 @@
 -- What a table holds: atoms by kind and fields, clauses by head and literals ("The table, in order").
 use mathlib.Core.Bool.{Bool, _&&_}
-use mathlib.Core.List.{List, [], _∷_}
+use mathlib.Core.List.{List, []}
 use Prim.Native.Nat.{ℕ}
 use lib.Dec.{eqb}
 use lib.ListN.{getD}

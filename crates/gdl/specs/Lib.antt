@@ -2,8 +2,10 @@ pub mod Game
 pub mod Sets
 pub mod Standard
 pub mod Graph
+pub mod Valid
 pub mod Truth
 pub mod Published
 pub mod Reach
 pub mod Flags
 pub mod Computed
+pub mod Layout
