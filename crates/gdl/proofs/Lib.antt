@@ -11,3 +11,4 @@ pub mod Linking
 pub mod Reaching
 pub mod Agreeing
 pub mod Layouts
+pub mod Walks

@@ -9,3 +9,4 @@ pub mod Reach
 pub mod Flags
 pub mod Computed
 pub mod Layout
+pub mod Lists

@@ -13,7 +13,7 @@ use borrow.Author.Tests.{lt-ltb, le-ltb, ltb-false}
 use Rattle.refusals.specs.declared.Refusal.{Refusal}
 use Rattle.refusals.specs.declared.Refusal.the-variants.{OutOfRange}
 use Rattle.gdl.specs.Game.{Literal, Clause}
-use Rattle.gdl.specs.Layout.{codeOf, literal, headsOf, startsFrom, literalsOf, ownersOf}
+use Rattle.gdl.specs.Layout.{codeOf, literalOf, headsOf, startsFrom, literalsOf, ownersOf}
 use Rattle.gdl.proofs.Layouts.{code-literal, literals-snoc, owners-snoc, starts-snoc, owners-long, starts-long}
 use Rattle.table.specs.Parse.{Parse, ok, fault, after, bounded, refuse_if_}
 use Rattle.table.specs.Table.{literals, clause, clausesFrom}
@@ -55,12 +55,12 @@ module _ (s : List ℕ) (at n end : ℕ) (old : List ℕ) (used : ℕ) where
       pub filling-more : (x : Item) → r ≡ F.Value x → Filling s at n end old used (set room (used + k) (x .value)) (k + 1) (x .next)
       unfolding literals
       filling-more x g =
-          let c : codeOf (literal (x .value)) ≡ x .value = code-literal (x .value) in
+          let c : codeOf (literalOf (x .value)) ≡ x .value = code-literal (x .value) in
           record {
             within = omega arith;
-            done = i .done ++ literal (x .value) ∷ [];
+            done = i .done ++ literalOf (x .value) ∷ [];
             many = rw length-append (omega (arith, i .many));
-            held = rw c at (stored-next codeOf old room used (used + k) (i .done) (literal (x .value)) (i .held) (omega (arith, i .many)));
+            held = rw c at (stored-next codeOf old room used (used + k) (i .done) (literalOf (x .value)) (i .held) (omega (arith, i .many)));
             whole = rw (i .whole, left, ← e, g) (onto-cons _ _ _);
           }
 
@@ -203,7 +203,6 @@ pub record Laying (s : List ℕ) (at n a : ℕ) (hs₀ ss₀ ls₀ os₀ hs ss l
 
 module _ (s : List ℕ) (at n a : ℕ) (hs₀ ss₀ ls₀ os₀ : List ℕ) where
   pub laying-starts : Laying s at n a hs₀ ss₀ ls₀ os₀ hs₀ ss₀ ls₀ os₀ 0 0 at
-  unfolding startsFrom literalsOf ownersOf
   laying-starts = record {
     within = omega arith;
     room = omega arith;

@@ -5,7 +5,7 @@ use mathlib.Core.List.{List, [], _∷_}
 use lib.ListN.{length, getD}
 use Rattle.refusals.specs.declared.Refusal.the-variants.{OutOfRange, NotAbove, BytesAfter, TableTooLong}
 use Rattle.gdl.specs.Game.{Atom, Literal, Clause, Game}
-use Rattle.gdl.specs.Layout.{literal}
+use Rattle.gdl.specs.Layout.{literalOf}
 use Rattle.table.specs.Parse.{Reader, _>>=_, give, place, size, refuse_if_, number_to_, bounded}
 use Rattle.table.specs.declared.header.Players.{Players}
 use Rattle.table.specs.declared.header.Sizes.{Sizes}
@@ -90,7 +90,7 @@ literals zero end = give []
 literals (suc n) end = do
   x ← bounded 0 end
   xs ← literals n end
-  give (literal x ∷ xs)
+  give (literalOf x ∷ xs)
 
 -- "A clause record is a head atom, a count of literals (0 to 64), and the literals": "a literal count that takes the total past 8,192" is out
 -- of range; `room` is what is left of the 8,192

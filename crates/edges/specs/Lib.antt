@@ -1,0 +1,4 @@
+pub mod Graph
+pub mod Closure
+pub mod Uses
+pub mod Marks

@@ -1,0 +1,4 @@
+pub mod Shapes
+pub mod ByteForm
+pub mod Fitting
+pub mod Fits
