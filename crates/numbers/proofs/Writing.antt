@@ -1,20 +1,21 @@
 -- Laws of writing: what each length of number leaves in the room; reading back what was written gives the number and the place after it.
 use Prim.Native.Nat.{ℕ, zero, suc, _+_, _-_, _%_, _/_, _*_, _≤_, _<_}
 use native.Mathlib.Omega.{arith}
-use native.Mathlib.Nat.{not-suc-le-zero}
+use native.Mathlib.Nat.{not-suc-le-zero, add-zero}
 use native.Mathlib.Decide.{decLt}
 use native.Mathlib.Numerals.{add-one}
 use mathlib.Core.Path.{_≡_, refl, sym, _∙_}
 use mathlib.Core.Logic.{_⊎_, inl, inr}
-use mathlib.Core.List.{List, [], _∷_}
-use lib.ListN.{length, getD, set, length-set}
+use mathlib.Core.List.{List, [], _∷_, _++_}
+use lib.ListN.{length, getD, set, length-set, length-append}
 use lib.Seq.{sets, length-sets, getD-set-same, getD-set-other}
+use lib.Dec.{leb}
 use borrow.Author.Tests.{le-ltb, lt-ltb, le-leb, lt-leb}
 use Rattle.numbers.specs.Number.{runAt, numberAt}
-use Rattle.numbers.specs.Writing.{numberBytes, writtenAt}
+use Rattle.numbers.specs.Writing.{numberBytes, writtenAt, bytesOf, written}
 use Rattle.numbers.specs.declared.Number.the-variants.{Read}
 use Rattle.numbers.specs.declared.Run.the-variants.{One, Two, Three}
-use Rattle.numbers.proofs.Reading.{one, two, three, two-read, three-read, at-one, at-two, at-three}
+use Rattle.numbers.proofs.Reading.{by-test, one, two, three, two-read, three-read, at-one, at-two, at-three}
 
 -- ---- the bytes of a number, by their count
 
@@ -164,3 +165,34 @@ module _ (room : List ℕ) (at v : ℕ) (small : v ≤ 65535) (fits : at + lengt
   pub reads-back : numberAt (sets room at (numberBytes v)) at ≡ Read v (at + length (numberBytes v))
   unfolding s
   reads-back = sym read
+
+-- ---- numbers one after another
+
+sets-append : (l : List ℕ) (i : ℕ) (vs ws : List ℕ) → sets (sets l i vs) (i + length vs) ws ≡ sets l i (vs ++ ws)
+sets-append l i [] ws = rw add-zero
+sets-append l i (b ∷ vs) ws =
+    let e : i + suc (length vs) ≡ suc i + length vs = omega arith in
+    rw e (sets-append (set l i b) (suc i) vs ws)
+
+pub written-append : (ms ns : List ℕ) (p : ℕ × List ℕ) → written (ms ++ ns) p ≡ written ns (written ms p)
+written-append [] ns p = refl
+written-append (m ∷ ms) ns p = written-append ms ns (writtenAt (numberBytes m) (p .0) (p .1))
+
+-- a room keeps its length
+wrote-long : (bs : List ℕ) (at : ℕ) (room : List ℕ) → length (writtenAt bs at room .1) ≡ length room
+unfolding writtenAt
+wrote-long bs at room = by-test (λ (p : ℕ × List ℕ). length (p .1) ≡ length room) (leb (at + length bs) (length room)) {x = (at + length bs, sets room at bs)} {y = (at, room)} (λ _. length-sets room at bs) (λ _. refl)
+
+pub written-long : (ns : List ℕ) (p : ℕ × List ℕ) → length (written ns p .1) ≡ length (p .1)
+written-long [] p = refl
+written-long (n ∷ ns) p = written-long ns (writtenAt (numberBytes n) (p .0) (p .1)) ∙ wrote-long (numberBytes n) (p .0) (p .1)
+
+-- where all their bytes fit, they stand in a row
+pub written-fits : (ns : List ℕ) (at : ℕ) (room : List ℕ) → at + length (bytesOf ns) ≤ length room → written ns (at, room) ≡ (at + length (bytesOf ns), sets room at (bytesOf ns))
+written-fits [] at room h = let e : at + 0 ≡ at = omega arith in rw e
+written-fits (n ∷ ns) at room h =
+    let b : List ℕ = numberBytes n in
+    let k : length (b ++ bytesOf ns) ≡ length b + length (bytesOf ns) = length-append b (bytesOf ns) in
+    let e : at + length b + length (bytesOf ns) ≡ at + length (b ++ bytesOf ns) = omega arith in
+    let w : writtenAt b at room ≡ (at + length b, sets room at b) = sym (fit b at room (omega arith)) in
+    rw (w, written-fits ns (at + length b) (sets room at b) (rw (length-sets room at b) (omega arith)), e, sets-append room at b (bytesOf ns))

@@ -2,26 +2,19 @@ use Rattle.truth.proofs.Marked.{mark-cases}
 use borrow.Author.Needs.{needs}
 use Rattle.truth.proofs.marks.mark.Statement.{statement}
 use Rattle.truth.proofs.marks.mark.Tie as tie
-use Rattle.truth.proofs.marks.mark.Reads as reads
-use Rattle.truth.proofs.marks.mark.Lts as lts
 
--- src/marks.rt:28:9
 returns : tie.Need-returns
 returns c = search (needs, mark-cases)
 
--- src/marks.rt:31:9
 returns-2 : tie.Need-returns-2
 returns-2 c = search (needs, mark-cases)
 
--- src/marks.rt:34:9
 returns-3 : tie.Need-returns-3
 returns-3 c = search (needs, mark-cases)
 
--- src/marks.rt:36:5
 element-write-marks : tie.Need-element-write-marks
 element-write-marks c = search needs
 
--- src/marks.rt:24:1
 returns-4 : tie.Need-returns-4
 returns-4 c = search (needs, mark-cases)
 

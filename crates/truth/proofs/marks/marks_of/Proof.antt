@@ -5,10 +5,6 @@ use borrow.Author.Needs.{needs}
 use Rattle.truth.proofs.marks.marks_of.Statement.{statement}
 use Rattle.truth.proofs.marks.marks_of.Tie as tie
 use Rattle.truth.proofs.marks.marks_of.Reads as reads
-use Rattle.truth.proofs.marks.marks_of.Lts as lts
-use Rattle.truth.proofs.marks.mark.Reads as mark-reads
-use Rattle.truth.proofs.marks.no_marks.Reads as no-marks-reads
-use Rattle.truth.proofs.marks.place.Reads as place-reads
 
 abbrev Inv-loop : tie.InvT-loop
 Inv-loop kinds firsts seconds flags kind width marks₀ i₀ marks i = Marked kinds firsts seconds flags kind width marks i
@@ -16,63 +12,48 @@ Inv-loop kinds firsts seconds flags kind width marks₀ i₀ marks i = Marked ki
 abbrev μ-loop : tie.MeasureT-loop
 μ-loop kinds firsts seconds flags kind width marks₀ i₀ marks i = length kinds - i
 
--- src/marks.rt:51:21
 no-marks-requires : tie.Need-no-marks-requires Inv-loop μ-loop
 no-marks-requires c κs = search needs
 
--- src/marks.rt:53:5
 loop-holds : tie.Need-loop-holds Inv-loop μ-loop
 loop-holds c = search (needs, markings)
 
--- src/marks.rt:54:24
 mul-place : tie.Need-mul-place Inv-loop μ-loop
 mul-place c = search needs
 
--- src/marks.rt:54:24
 shared-slice-read-place : tie.Need-shared-slice-read-place Inv-loop μ-loop
 shared-slice-read-place c = search needs
 
--- src/marks.rt:54:35
 mul-place-2 : tie.Need-mul-place-2 Inv-loop μ-loop
 mul-place-2 c = search needs
 
--- src/marks.rt:54:35
 shared-slice-read-place-2 : tie.Need-shared-slice-read-place-2 Inv-loop μ-loop
 shared-slice-read-place-2 c = search needs
 
--- src/marks.rt:54:13
 place-requires : tie.Need-place-requires Inv-loop μ-loop
 place-requires c κs = search needs
 
--- src/marks.rt:55:26
 mul-mark : tie.Need-mul-mark Inv-loop μ-loop
 mul-mark c = search needs
 
--- src/marks.rt:55:26
 shared-slice-read-mark : tie.Need-shared-slice-read-mark Inv-loop μ-loop
 shared-slice-read-mark c = search needs
 
--- src/marks.rt:55:42
 element-copy-out-mark : tie.Need-element-copy-out-mark Inv-loop μ-loop
 element-copy-out-mark c = search needs
 
--- src/marks.rt:55:9
 mark-requires : tie.Need-mark-requires Inv-loop μ-loop
 mark-requires c κs = search needs
 
--- src/marks.rt:56:9
 add-i : tie.Need-add-i Inv-loop μ-loop
 add-i c = search needs
 
--- src/marks.rt:53:5
 loop-less : tie.Need-loop-less Inv-loop μ-loop
 loop-less c = search needs
 
--- src/marks.rt:53:5
 loop-again : tie.Need-loop-again Inv-loop μ-loop
 loop-again c = search (needs, markings)
 
--- src/marks.rt:40:1
 returns : tie.Need-returns Inv-loop μ-loop
 returns c = search (needs, markings)
 

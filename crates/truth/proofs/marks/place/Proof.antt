@@ -3,18 +3,13 @@ use native.Mathlib.Omega.{arith}
 use borrow.Author.Needs.{needs}
 use Rattle.truth.proofs.marks.place.Statement.{statement}
 use Rattle.truth.proofs.marks.place.Tie as tie
-use Rattle.truth.proofs.marks.place.Reads as reads
-use Rattle.truth.proofs.marks.place.Lts as lts
 
--- src/marks.rt:20:5
 mul-result : tie.Need-mul-result
 mul-result c = omega (arith, place-fits (c .args .first) (c .args .width) (search needs) (search needs))
 
--- src/marks.rt:20:5
 add-result : tie.Need-add-result
 add-result c = omega (arith, place-fits (c .args .first) (c .args .width) (search needs) (search needs))
 
--- src/marks.rt:16:1
 returns : tie.Need-returns
 returns c = search needs
 
