@@ -5,3 +5,4 @@ pub mod AtomRecords
 pub mod ClauseRecords
 pub mod Whole
 pub mod Examples
+pub mod Faults
