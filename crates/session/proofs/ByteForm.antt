@@ -47,7 +47,7 @@ back-little (b ∷ bs) w =
 
 -- ---- numbers of two bytes
 
-pairs-length : (l : List ℕ) → length (pairsOf l) ≡ 2 * length l
+pub pairs-length : (l : List ℕ) → length (pairsOf l) ≡ 2 * length l
 pairs-length [] = refl
 pairs-length (x ∷ l) = let e = pairs-length l in omega arith
 
@@ -66,7 +66,7 @@ back-pairs (suc n) (suc (suc k)) (a ∷ b ∷ bs) e le w = ap₂ (λ (x y : List
 
 -- ---- the record
 
-session-same : (p p′ c c′ s s′ : List ℕ) (r r′ : ℕ) → p ≡ p′ → c ≡ c′ → s ≡ s′ → r ≡ r′
+pub session-same : (p p′ c c′ s s′ : List ℕ) (r r′ : ℕ) → p ≡ p′ → c ≡ c′ → s ≡ s′ → r ≡ r′
     → _≡_ {A = Session} (record { position = p; choices = c; percepts = s; round = r }) (record { position = p′; choices = c′; percepts = s′; round = r′ })
 session-same p p′ c c′ s s′ r r′ a b d e = cc
 

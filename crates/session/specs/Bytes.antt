@@ -1,9 +1,13 @@
 -- The byte form of a record: its fields in their order, little endian, 512 + 16 + 2,048 + 4 = 2,580 bytes.
 use mathlib.Core.Path.{_≡_}
+use mathlib.Core.Bool.{true, false, cond}
 use mathlib.Core.List.{List, [], _∷_, _++_}
 use Prim.Native.Nat.{ℕ, zero, suc, _+_, _*_, _/_, _%_, _<_}
+use lib.Dec.{eqb}
 use lib.ListN.{length, getD, take, drop}
 use Rattle.session.specs.declared.Session.{Session}
+use Rattle.session.specs.declared.bytes.Read.{Read}
+use Rattle.session.specs.Shape.{blankSession}
 
 -- a number in so many bytes, the lowest first, and back
 abbrev pub littleEndian : ℕ → ℕ → List ℕ
@@ -33,6 +37,10 @@ sessionOf bs = record {
   percepts = take 2048 (drop 528 bs);
   round = fromLittleEndian (take 4 (drop 2576 bs));
 }
+
+-- what bytes say, however many: a record if there are 2,580, and else none
+unfoldable pub readOf : List ℕ → Read
+readOf bs = cond (eqb (length bs) 2580) (record { whole = true; session = sessionOf bs }) (record { whole = false; session = blankSession })
 
 -- numbers below a bound
 pub record Within (bound : ℕ) (l : List ℕ) : Type 0 where

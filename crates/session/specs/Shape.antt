@@ -1,13 +1,42 @@
 -- Which records are well shaped: "A session". And the blank record.
+use mathlib.Core.Path.{_≡_}
 use mathlib.Core.Bool.{Bool, _&&_, cond}
 use mathlib.Core.List.{List}
-use Prim.Native.Nat.{ℕ, _/_, _%_}
+use Prim.Native.Nat.{ℕ, suc, _+_, _*_, _/_, _%_, _≤_, _<_}
 use lib.Dec.{leb, ltb}
+use lib.ListN.{getD}
 use Rattle.gdl.specs.Game.{Game}
 use Rattle.gdl.specs.Flags.{bit, blank}
 use Rattle.gdl.specs.Lists.{every}
 use Rattle.session.specs.declared.Session.{Session}
 use Rattle.session.specs.declared.shape.Limits.{Limits}
+
+-- ---- in the page's words
+
+-- "all flags are 0 or 1, none is set at or beyond F"
+pub record PositionFits (G : Game) (pos : List ℕ) : Type 0 where
+  pub flags : (f : ℕ) → getD pos f 0 ≤ 1
+  pub beyond : (f : ℕ) → G .fluents ≤ f → getD pos f 0 ≡ 0
+
+-- "each choice is none or a move below M, and seats from R on have none"
+pub record ChoicesFit (G : Game) (ch : List ℕ) : Type 0 where
+  pub moves : (s m : ℕ) → getD ch s 0 ≡ suc m → m < G .moves
+  pub beyond : (s : ℕ) → G .seats ≤ s → getD ch s 0 ≡ 0
+
+-- "all flags are 0 or 1, none is set at or beyond .. R or P"
+pub record PerceptsFit (G : Game) (ps : List ℕ) : Type 0 where
+  pub flags : (i : ℕ) → getD ps i 0 ≤ 1
+  pub beyond-seats : (s p : ℕ) → p < 256 → G .seats ≤ s → getD ps (s * 256 + p) 0 ≡ 0
+  pub beyond-percepts : (s p : ℕ) → p < 256 → G .percepts ≤ p → getD ps (s * 256 + p) 0 ≡ 0
+
+-- "It is well shaped if the round is at most 65,535, .."
+pub record WellShaped (G : Game) (σ : Session) : Type 0 where
+  pub round : σ .round ≤ 65535
+  pub position : PositionFits G (σ .position)
+  pub choices : ChoicesFit G (σ .choices)
+  pub percepts : PerceptsFit G (σ .percepts)
+
+-- ---- as a test of each element
 
 -- "all flags are 0 or 1, none is set at or beyond F, R or P": the places that may be set
 abbrev pub below : ℕ → ℕ → Bool

@@ -1,0 +1,9 @@
+pub mod Searching
+pub mod Holding
+pub mod Breaking
+pub mod Seating
+pub mod Marking
+pub mod Numbering
+pub mod Shaping
+pub mod Ordering
+pub mod Determined

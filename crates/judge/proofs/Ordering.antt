@@ -1,0 +1,131 @@
+-- Laws of rules in a row: what answers them.
+use mathlib.Core.Path.{_≡_, refl, sym, subst, _∙_}
+use mathlib.Core.Logic.{inl, inr}
+use mathlib.Core.Bool.{false}
+use mathlib.Core.List.{List, [], _∷_, _++_}
+use Prim.Native.Nat.{ℕ}
+use native.Mathlib.Omega.{arith}
+use lib.Dec.{eqb}
+use borrow.Author.Tests.{eq-eqb, ne-eqb}
+use Rattle.refusals.specs.declared.Refusal.{Refusal}
+use Rattle.refusals.specs.declared.Refusal.the-variants.{Success, NoLevels, NoRoleFact}
+use Rattle.refusals.specs.Refusal.{numberOf}
+use Rattle.gdl.specs.Game.{Game}
+use Rattle.gdl.specs.Flags.{blank}
+use Rattle.rules.specs.Verdict.{Verdict, unfit, fit}
+use Rattle.rules.specs.Rules.{LevelsBroken, RoleMissing, Ruled}
+use Rattle.judge.specs.Answers.{Finds, Searched}
+use Rattle.judge.specs.Arrays.{HeldClauses, HeldEdges, HeldRoles}
+use Rattle.judge.specs.Judgement.{Rule, RuledIn, clauseRules, dependenceRules, lastRules, verdictOf, Held, Answers, Levelled, LevelsOr11, LevelsOf, Judges, refusedBy, HeldLast}
+use Rattle.levels.specs.declared.Numbering.{Numbering}
+use Rattle.levels.specs.declared.Numbering.the-variants.{Allowed, Refused}
+use Rattle.judge.specs.declared.Judgement.{Judgement}
+use Rattle.judge.specs.declared.found.Found.{Found}
+use Rattle.judge.specs.declared.found.Found.the-variants.{Nowhere, At}
+use Rattle.judge.proofs.Numbering.{levelled-none}
+use Rattle.judge.proofs.Shaping.{held-clauses, held-edges, held-last}
+
+module _ (Held : Game → Type 0) where
+  pub answers-none : Answers Held [] Success
+  answers-none = record { ruled = λ G h. refl }
+
+  module _ (x : Rule) (rest : List Rule) (f : Found) (s : Searched Held (x .Broken) f) where
+    pub answers-here : (p : ℕ) (r : Refusal) → f ≡ At p → r ≡ x .refusal p → eqb (numberOf r) 0 ≡ false → Answers Held (x ∷ rest) r
+    answers-here p r e er n = record { ruled = λ G h. rw n (inl (p, subst (Finds (x .Broken G)) e (s .finds G h), rw er)) }
+
+    pub answers-past : (r : Refusal) → f ≡ Nowhere → Answers Held rest r → Answers Held (x ∷ rest) r
+    answers-past r e a = record { ruled = λ G h. inr (subst (Finds (x .Broken G)) e (s .finds G h), a .ruled G h) }
+
+pub ruleset answering = (answers-none, answers-here, answers-past)
+
+-- ---- rows joined: a refusal stands whatever follows; where nothing is refused, what follows decides
+
+clash : {P : Type 0} (G : Game) (r : Refusal) → _≡_ {A = Verdict} (unfit r) (fit G) → P
+clash G r e = let z : _≡_ {A = ℕ} 0 1 = cc in absurd (omega arith)
+
+module _ (G : Game) (rest : List Rule) where
+  in-stop : (rules : List Rule) (r : Refusal) → RuledIn rules G (unfit r) → RuledIn (rules ++ rest) G (unfit r)
+  in-stop [] r e = clash G r e
+  in-stop (x ∷ rules) r (inl a) = inl a
+  in-stop (x ∷ rules) r (inr b) = inr (b .0, in-stop rules r (b .1))
+
+  in-join : (rules : List Rule) (v : Verdict) → RuledIn rules G (fit G) → RuledIn rest G v → RuledIn (rules ++ rest) G v
+  in-join [] v e l = l
+  in-join (x ∷ rules) v (inl a) l = clash G _ (sym (a .2))
+  in-join (x ∷ rules) v (inr b) l = inr (b .0, in-join rules v (b .1) l)
+
+verdict-unfit : (G : Game) (r : Refusal) → (numberOf r ≡ 0 → ⊥) → verdictOf G r ≡ unfit r
+verdict-unfit G r n = rw (ne-eqb (numberOf r) 0 n)
+
+verdict-fit : (G : Game) (r : Refusal) → numberOf r ≡ 0 → verdictOf G r ≡ fit G
+verdict-fit G r e = rw (eq-eqb (numberOf r) 0 e)
+
+-- an answer with no levels
+refused-judges : (Held : Game → Type 0) (Rules : Game → Verdict → Type 0) (r : Refusal) → (numberOf r ≡ 0 → ⊥) → ((G : Game) → Held G → Rules G (unfit r)) → Judges Held Rules (refusedBy r)
+refused-judges Held Rules r n ruled = record {
+  ruled = λ G h. rw (verdict-unfit G r n) (ruled G h);
+  levels = λ e. absurd (n e);
+  blank-levels = λ _. refl;
+  blank-top = λ _. refl;
+}
+
+pub refused-is : (r : Refusal) (v : List ℕ) → v ≡ blank 1024 → _≡_ {A = Judgement} (record { refusal = r; levels = v; top = 0 }) (refusedBy r)
+refused-is r v e = rw e
+
+-- ---- 11 and 12
+
+module _ (kinds firsts heads owners literals : List ℕ) (seats : ℕ) (n : Numbering) (v : List ℕ) (l : LevelsOf (HeldEdges kinds owners literals) n v) where
+  pub last-refused : (p : ℕ) (j : Judgement) → n ≡ Refused p → j ≡ refusedBy (NoLevels p) → Judges (HeldLast kinds firsts heads owners literals seats) (RuledIn lastRules) j
+  last-refused p j e ej = rw ej (refused-judges _ _ (NoLevels p) (λ z. omega arith) (λ G h. inl (p, subst (λ m. LevelsOr11 G m v) e (l .says G (h .edges)), refl)))
+
+  module _ (top : ℕ) (e : n ≡ Allowed top) (f : Found) (s : Searched (HeldRoles kinds firsts heads seats) RoleMissing f) where
+    levelled : (G : Game) → HeldEdges kinds owners literals G → Levelled G v top
+    levelled G h = subst (λ m. LevelsOr11 G m v) e (l .says G h)
+
+    no-cycle : (G : Game) → HeldEdges kinds owners literals G → (p : ℕ) → LevelsBroken G p → ⊥
+    no-cycle G h = levelled-none G v top (h .limits .heads) (levelled G h)
+
+    pub last-seat : (q : ℕ) (j : Judgement) → f ≡ At q → j ≡ refusedBy (NoRoleFact q) → Judges (HeldLast kinds firsts heads owners literals seats) (RuledIn lastRules) j
+    last-seat q j ef ej = rw ej (refused-judges _ _ (NoRoleFact q) (λ z. omega arith) (λ G h. inr (no-cycle G (h .edges), inl (q, subst (Finds (RoleMissing G)) ef (s .finds G (h .roles)), refl))))
+
+    pub last-done : f ≡ Nowhere → Judges (HeldLast kinds firsts heads owners literals seats) (RuledIn lastRules) (record { refusal = Success; levels = v; top = top })
+    last-done ef = record {
+      ruled = λ G h. inr (no-cycle G (h .edges), inr (subst (Finds (RoleMissing G)) ef (s .finds G (h .roles)), refl));
+      levels = λ _ G h. levelled G (h .edges);
+      blank-levels = λ n. absurd (n refl);
+      blank-top = λ n. absurd (n refl);
+    }
+
+pub ruleset lasting = (refused-is, last-refused, last-seat, last-done)
+
+-- ---- all of them
+
+module _ (kinds firsts heads starts literals owners : List ℕ) (seats : ℕ) where
+  module _ (r : Refusal) (a : Answers (HeldClauses kinds heads starts literals) clauseRules r) (n : ℕ) (en : n ≡ numberOf r) where
+    pub all-clauses : (n ≡ 0 → ⊥) → (j : Judgement) → j ≡ refusedBy r → Judges (Held kinds firsts heads starts literals owners seats) Ruled j
+    all-clauses ne j ej =
+        let z : numberOf r ≡ 0 → ⊥ = λ e. ne (en ∙ e) in
+        rw ej (refused-judges _ Ruled r z (λ G h. in-stop G (dependenceRules ++ lastRules) clauseRules r (subst (RuledIn clauseRules G) (verdict-unfit G r z) (a .ruled G (held-clauses h)))))
+
+    module _ (e : n ≡ 0) where
+      past-clauses : (G : Game) → Held kinds firsts heads starts literals owners seats G → (v : Verdict) → RuledIn (dependenceRules ++ lastRules) G v → Ruled G v
+      past-clauses G h v l = in-join G (dependenceRules ++ lastRules) clauseRules v (subst (RuledIn clauseRules G) (verdict-fit G r (sym en ∙ e)) (a .ruled G (held-clauses h))) l
+
+      module _ (r′ : Refusal) (a′ : Answers (HeldEdges kinds owners literals) dependenceRules r′) (n′ : ℕ) (en′ : n′ ≡ numberOf r′) where
+        pub all-dependence : (n′ ≡ 0 → ⊥) → (j : Judgement) → j ≡ refusedBy r′ → Judges (Held kinds firsts heads starts literals owners seats) Ruled j
+        all-dependence ne j ej =
+            let z : numberOf r′ ≡ 0 → ⊥ = λ e. ne (en′ ∙ e) in
+            rw ej (refused-judges _ Ruled r′ z (λ G h. past-clauses G h (unfit r′)
+            (in-stop G lastRules dependenceRules r′ (subst (RuledIn dependenceRules G) (verdict-unfit G r′ z) (a′ .ruled G (held-edges h))))))
+
+        pub all-last : n′ ≡ 0 → (j : Judgement) → Judges (HeldLast kinds firsts heads owners literals seats) (RuledIn lastRules) j
+            → Judges (Held kinds firsts heads starts literals owners seats) Ruled j
+        all-last e′ j l = record {
+          ruled = λ G h. past-clauses G h (verdictOf G (j .refusal))
+              (in-join G lastRules dependenceRules (verdictOf G (j .refusal)) (subst (RuledIn dependenceRules G) (verdict-fit G r′ (sym en′ ∙ e′)) (a′ .ruled G (held-edges h))) (l .ruled G (held-last h)));
+          levels = λ z G h. l .levels z G (held-last h);
+          blank-levels = l .blank-levels;
+          blank-top = l .blank-top;
+        }
+
+pub ruleset judging = (all-clauses, all-dependence, all-last)

@@ -1,0 +1,62 @@
+-- Each `return` is what the searches before it found: nothing, or the first place.
+use borrow.Author.Needs.{needs}
+use Rattle.judge.proofs.Ordering.{answering}
+use Rattle.judge.proofs.judge_dependence.Statement.{statement}
+use Rattle.judge.proofs.judge_dependence.Tie as tie
+
+slice-aggregate-lowest-leaning : tie.Need-slice-aggregate-lowest-leaning
+slice-aggregate-lowest-leaning c = search needs
+
+slice-aggregate-lowest-leaning-2 : tie.Need-slice-aggregate-lowest-leaning-2
+slice-aggregate-lowest-leaning-2 c = search needs
+
+lowest-leaning-requires : tie.Need-lowest-leaning-requires
+lowest-leaning-requires c κs = search needs
+
+enum-known-p : tie.Need-enum-known-p
+enum-known-p c = search needs
+
+returns : tie.Need-returns
+returns c = search (needs, answering)
+
+enum-told : tie.Need-enum-told
+enum-told c = search needs
+
+slice-aggregate-lowest-leaning-3 : tie.Need-slice-aggregate-lowest-leaning-3
+slice-aggregate-lowest-leaning-3 c = search needs
+
+slice-aggregate-lowest-leaning-4 : tie.Need-slice-aggregate-lowest-leaning-4
+slice-aggregate-lowest-leaning-4 c = search needs
+
+lowest-leaning-requires-2 : tie.Need-lowest-leaning-requires-2
+lowest-leaning-requires-2 c κs = search needs
+
+enum-known-p-2 : tie.Need-enum-known-p-2
+enum-known-p-2 c = search needs
+
+enum-told-2 : tie.Need-enum-told-2
+enum-told-2 c = search needs
+
+returns-2 : tie.Need-returns-2
+returns-2 c = search (needs, answering)
+
+returns-3 : tie.Need-returns-3
+returns-3 c = search (needs, answering)
+
+pub judge-dependence-spec : {M : Type 1} → statement M
+judge-dependence-spec =
+    tie.close
+    (tie.spec
+    slice-aggregate-lowest-leaning
+    slice-aggregate-lowest-leaning-2
+    lowest-leaning-requires
+    enum-known-p
+    returns
+    enum-told
+    slice-aggregate-lowest-leaning-3
+    slice-aggregate-lowest-leaning-4
+    lowest-leaning-requires-2
+    enum-known-p-2
+    enum-told-2
+    returns-2
+    returns-3)

@@ -1,0 +1,55 @@
+-- The loop: no atom passed leans. A marked atom of these kinds is none of those, so it depends on one.
+use Prim.Native.Nat.{_-_}
+use lib.ListN.{length}
+use borrow.Author.Needs.{needs}
+use Rattle.rules.specs.Rules.{Leans}
+use Rattle.judge.specs.Arrays.{HeldEdges}
+use Rattle.judge.proofs.Marking.{leaning}
+use Rattle.judge.proofs.Searching.{Clear, searches}
+use Rattle.judge.proofs.leaning.lowest_leaning.Statement.{statement}
+use Rattle.judge.proofs.leaning.lowest_leaning.Tie as tie
+
+abbrev Inv-loop : tie.InvT-loop
+Inv-loop kinds owners literals these those marks p₀ p = Clear (HeldEdges kinds owners literals) (Leans these those) p
+
+abbrev μ-loop : tie.MeasureT-loop
+μ-loop kinds owners literals these those marks p₀ p = length kinds - p
+
+marks-of-requires : tie.Need-marks-of-requires Inv-loop μ-loop
+marks-of-requires c κs = search (needs, searches, leaning)
+
+loop-holds : tie.Need-loop-holds Inv-loop μ-loop
+loop-holds c = search (needs, searches, leaning)
+
+marked-requires : tie.Need-marked-requires Inv-loop μ-loop
+marked-requires c κs = search (needs, searches, leaning)
+
+returns : tie.Need-returns Inv-loop μ-loop
+returns c = search (needs, searches, leaning)
+
+add-p : tie.Need-add-p Inv-loop μ-loop
+add-p c = search needs
+
+loop-less : tie.Need-loop-less Inv-loop μ-loop
+loop-less c = search needs
+
+loop-again : tie.Need-loop-again Inv-loop μ-loop
+loop-again c = search (needs, searches, leaning)
+
+returns-2 : tie.Need-returns-2 Inv-loop μ-loop
+returns-2 c = search (needs, searches, leaning)
+
+pub lowest-leaning-spec : {M : Type 1} → statement M
+lowest-leaning-spec =
+    tie.close
+    (tie.spec
+    Inv-loop
+    μ-loop
+    marks-of-requires
+    loop-holds
+    marked-requires
+    returns
+    add-p
+    loop-less
+    loop-again
+    returns-2)

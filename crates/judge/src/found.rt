@@ -1,0 +1,5 @@
+// Where a rule is broken.
+pub(super) enum Found {
+    Nowhere,
+    At(usize),
+}

@@ -1,0 +1,156 @@
+// The rules of a valid table on arrays: the first refusal of 6 to 12, or the levels of the atoms.
+ghost use mathlib.Core.Path.{_≡_};
+ghost use Rattle.gdl.specs.Flags.{blank};
+ghost use Rattle.rules.specs.Rules.{Ruled};
+ghost use Rattle.judge.specs.Arrays.{HeldClauses, HeldEdges, ClausesShaped, EdgesShaped};
+ghost use Rattle.judge.specs.Judgement.{clauseRules, dependenceRules, lastRules, RuledIn, Answers, Held, HoldsGame, LevelsOf, Judges, LastAsked, HeldLast, refusedBy};
+
+mod clauses; // 6, 7 and 8
+mod found;
+mod kinds;
+mod leaning; // 9 and 10
+mod seats; // 12
+
+use clauses::ClauseRule;
+use clauses::lowest_breaking;
+use found::Found;
+use kinds::{DOES, GOAL, INIT, LEGAL, TERMINAL, TRUE};
+use leaning::lowest_leaning;
+use levels::Numbering;
+use refusals::Refusal;
+use refusals::number_of;
+use seats::lowest_seat;
+
+// The levels in 1,024 places, or the place of 11.
+struct Numbered {
+    numbering: Numbering,
+    levels: [u16; 1024],
+}
+
+// A refusal of 6 to 12, all else blank; or Success, the least level of each atom and the first number above the levels.
+pub struct Judgement {
+    pub refusal: Refusal,
+    pub levels: [u16; 1024],
+    pub top: u16,
+}
+
+fn wide(x: u16) -> usize
+    ensures { λ r. ⌜ r ≡ x ⌝ }
+{
+    x as usize
+}
+
+// 6, 7 and 8.
+fn judge_clauses(kinds: &[u16], heads: &[u16], starts: &[u16], literals: &[u16]) -> Refusal
+    requires { ⌜ ClausesShaped (now kinds) (now heads) (now starts) (now literals) ⌝ }
+    ensures { λ r. ⌜ Answers (HeldClauses (now (kinds .entry)) (now (heads .entry)) (now (starts .entry)) (now (literals .entry))) clauseRules r ⌝ }
+{
+    match lowest_breaking(ClauseRule::Role, kinds, heads, starts, literals) {
+        Found::At(i) => return Refusal::RoleWithBody(i),
+        Found::Nowhere => {}
+    }
+    match lowest_breaking(ClauseRule::Head, kinds, heads, starts, literals) {
+        Found::At(i) => return Refusal::NeverHead(i),
+        Found::Nowhere => {}
+    }
+    match lowest_breaking(ClauseRule::Body, kinds, heads, starts, literals) {
+        Found::At(i) => Refusal::NeverInBody(i),
+        Found::Nowhere => Refusal::Success,
+    }
+}
+
+// 9 and 10.
+fn judge_dependence(kinds: &[u16], owners: &[u16], literals: &[u16]) -> Refusal
+    requires { ⌜ EdgesShaped (now kinds) (now owners) (now literals) ⌝ }
+    ensures { λ r. ⌜ Answers (HeldEdges (now (kinds .entry)) (now (owners .entry)) (now (literals .entry))) dependenceRules r ⌝ }
+{
+    match lowest_leaning(kinds, owners, literals, &[INIT], &[TRUE, DOES, LEGAL, TERMINAL, GOAL]) {
+        Found::At(p) => return Refusal::InitRule(p),
+        Found::Nowhere => {}
+    }
+    match lowest_leaning(kinds, owners, literals, &[LEGAL, TERMINAL, GOAL], &[DOES]) {
+        Found::At(p) => Refusal::DoesRule(p),
+        Found::Nowhere => Refusal::Success,
+    }
+}
+
+fn no_levels() -> [u16; 1024]
+    ensures { λ r. ⌜ r ≡ blank 1024 ⌝ }
+{
+    [0; 1024]
+}
+
+fn refused(refusal: Refusal) -> Judgement
+    ensures { λ j. ⌜ j ≡ refusedBy refusal ⌝ }
+{
+    Judgement {
+        refusal,
+        levels: no_levels(),
+        top: 0,
+    }
+}
+
+// 11.
+fn number_atoms(kinds: &[u16], owners: &[u16], literals: &[u16]) -> Numbered
+    requires { ⌜ EdgesShaped (now kinds) (now owners) (now literals) ⌝ }
+    ensures { λ r. ⌜ LevelsOf (HeldEdges (now (kinds .entry)) (now (owners .entry)) (now (literals .entry))) (r .numbering) (r .levels) ⌝ }
+{
+    let mut levels = no_levels();
+    let n = kinds.len();
+    let numbering = levels::number_levels(owners, literals, &mut levels[0..n]);
+    Numbered { numbering, levels }
+}
+
+// 11 and 12, and the levels.
+fn judge_last(
+    kinds: &[u16],
+    firsts: &[u16],
+    heads: &[u16],
+    owners: &[u16],
+    literals: &[u16],
+    seats: usize,
+) -> Judgement
+    requires { ⌜ LastAsked (now kinds) (now firsts) (now heads) (now owners) (now literals) ⌝ }
+    ensures { λ j. ⌜ Judges (HeldLast (now (kinds .entry)) (now (firsts .entry)) (now (heads .entry)) (now (owners .entry)) (now (literals .entry)) seats) (RuledIn lastRules) j ⌝ }
+{
+    let numbered = number_atoms(kinds, owners, literals);
+    let numbering = numbered.numbering;
+    match numbering {
+        Numbering::Refused(p) => refused(Refusal::NoLevels(p)),
+        Numbering::Allowed(top) => match lowest_seat(kinds, firsts, heads, seats) {
+            Found::At(s) => refused(Refusal::NoRoleFact(s)),
+            Found::Nowhere => {
+                let levels = numbered.levels;
+                Judgement {
+                    refusal: Refusal::Success,
+                    levels,
+                    top,
+                }
+            }
+        },
+    }
+}
+
+// The arrays of a table that was read: the first rule that is broken, at the lowest place, or the least levels of the atoms.
+pub fn judge_arrays(
+    kinds: &[u16],
+    firsts: &[u16],
+    heads: &[u16],
+    starts: &[u16],
+    literals: &[u16],
+    owners: &[u16],
+    seats: usize,
+) -> Judgement
+    requires { ⌜ HoldsGame (now kinds) (now firsts) (now heads) (now starts) (now literals) (now owners) seats ⌝ }
+    ensures { λ j. ⌜ Judges (Held (now (kinds .entry)) (now (firsts .entry)) (now (heads .entry)) (now (starts .entry)) (now (literals .entry)) (now (owners .entry)) seats) Ruled j ⌝ }
+{
+    let clauses = judge_clauses(kinds, heads, starts, literals);
+    if number_of(clauses) != 0 {
+        return refused(clauses);
+    }
+    let dependence = judge_dependence(kinds, owners, literals);
+    if number_of(dependence) != 0 {
+        return refused(dependence);
+    }
+    judge_last(kinds, firsts, heads, owners, literals, seats)
+}

@@ -1,0 +1,6 @@
+pub mod Records
+pub mod Secrecy
+pub mod Determined
+pub mod Evaluating
+pub mod Examples
+pub mod Instance
