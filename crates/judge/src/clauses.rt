@@ -9,7 +9,13 @@ ghost use Rattle.rules.specs.Rules.{some, oneOf};
 ghost use Rattle.judge.specs.Answers.{Searched, Tested};
 ghost use Rattle.judge.specs.Arrays.{Broken, HeldClauses, ClausesShaped, ClauseAsked, HeadAsked, BodyAsked, bodyAt, LiteralsOver};
 use super::found::Found;
-use super::kinds::{DOES, INIT, NEXT, ROLE, SEES, TRUE, one_of};
+use super::kinds::DOES;
+use super::kinds::INIT;
+use super::kinds::NEXT;
+use super::kinds::ROLE;
+use super::kinds::SEES;
+use super::kinds::TRUE;
+use super::kinds::one_of;
 use super::wide;
 
 // 6, 7 or 8.

@@ -14,7 +14,12 @@ mod seats; // 12
 use clauses::ClauseRule;
 use clauses::lowest_breaking;
 use found::Found;
-use kinds::{DOES, GOAL, INIT, LEGAL, TERMINAL, TRUE};
+use kinds::DOES;
+use kinds::GOAL;
+use kinds::INIT;
+use kinds::LEGAL;
+use kinds::TERMINAL;
+use kinds::TRUE;
 use leaning::lowest_leaning;
 use levels::Numbering;
 use refusals::Refusal;
@@ -64,7 +69,13 @@ fn judge_dependence(kinds: &[u16], owners: &[u16], literals: &[u16]) -> Refusal
     requires { ⌜ EdgesShaped (now kinds) (now owners) (now literals) ⌝ }
     ensures { λ r. ⌜ Answers (HeldEdges (now (kinds .entry)) (now (owners .entry)) (now (literals .entry))) dependenceRules r ⌝ }
 {
-    match lowest_leaning(kinds, owners, literals, &[INIT], &[TRUE, DOES, LEGAL, TERMINAL, GOAL]) {
+    match lowest_leaning(
+        kinds,
+        owners,
+        literals,
+        &[INIT],
+        &[TRUE, DOES, LEGAL, TERMINAL, GOAL],
+    ) {
         Found::At(p) => return Refusal::InitRule(p),
         Found::Nowhere => {}
     }

@@ -12,7 +12,7 @@ use Rattle.table.specs.Table.{table}
 use Rattle.rules.specs.Verdict.{Verdict, unfit}
 use Rattle.rules.specs.Rules.{Lowest, rule_refuses_else_, Ruled, JudgedOf, Judged}
 
-pub lowest-one : (Broken : ℕ → Type 0) (p q : ℕ) → Lowest Broken p → Lowest Broken q → p ≡ q
+lowest-one : (Broken : ℕ → Type 0) (p q : ℕ) → Lowest Broken p → Lowest Broken q → p ≡ q
 lowest-one Broken p q a b = elim (ℕ-discrete p q) [
   | yes e ↦ e
   | no ne ↦

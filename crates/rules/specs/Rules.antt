@@ -15,6 +15,7 @@ use Rattle.table.specs.Parse.{Parse, ok, fault}
 use Rattle.table.specs.Table.{table}
 use Rattle.rules.specs.Verdict.{Verdict, unfit, fit}
 
+-- some element passes
 abbrev pub some : {A : Type 0} → (A → Bool) → List A → Bool
 some f [] = false
 some f (x ∷ xs) = f x || some f xs

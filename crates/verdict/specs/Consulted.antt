@@ -1,0 +1,28 @@
+-- What a call learns from a table: the refusal, all else blank; or the header, the atoms, and what is true in a position with choices.
+use mathlib.Core.List.{List, _++_}
+use Prim.Native.Nat.{ℕ, _-_}
+use lib.ListN.{length}
+use lib.Seq.{sets}
+use Rattle.refusals.specs.declared.Refusal.{Refusal}
+use Rattle.refusals.specs.declared.Refusal.the-variants.{Success}
+use Rattle.gdl.specs.Game.{Game}
+use Rattle.gdl.specs.Flags.{blank}
+use Rattle.gdl.specs.Layout.{kindsOf, firstsOf, secondsOf}
+use Rattle.gdl.specs.Computed.{model}
+use Rattle.table.specs.Says.{blankHeader, headerOf}
+use Rattle.rules.specs.Verdict.{Verdict, unfit, fit}
+use Rattle.verdict.specs.declared.Consulted.{Consulted}
+
+abbrev pub refusedBy : Refusal → Consulted
+refusedBy f = record { refusal = f; header = blankHeader; kinds = blank 1024; firsts = blank 1024; seconds = blank 1024; flags = blank 1024 }
+
+abbrev pub consulted : Verdict → List ℕ → List ℕ → Consulted
+consulted (unfit f) pos ch = refusedBy f
+consulted (fit G) pos ch = record {
+  refusal = Success;
+  header = headerOf G;
+  kinds = sets (blank 1024) 0 (kindsOf (G .atoms));
+  firsts = sets (blank 1024) 0 (firstsOf (G .atoms));
+  seconds = sets (blank 1024) 0 (secondsOf (G .atoms));
+  flags = model G pos ch ++ blank (1024 - length (G .atoms));
+}

@@ -1,0 +1,145 @@
+// The verdict on a table, and what is true in a position of it: read, judged and modelled in one go, since every call asks the table anew.
+use judge::Judgement;
+use refusals::Refusal;
+use refusals::number_of;
+use table::header::Header;
+ghost use mathlib.Core.Path.{_≡_};
+ghost use Rattle.gdl.specs.Game.{Game};
+ghost use Rattle.judge.specs.Judgement.{Judges};
+ghost use Rattle.rules.specs.Rules.{Ruled};
+ghost use Rattle.truth.specs.Promise.{Modelled};
+ghost use Rattle.gdl.specs.Flags.{blank};
+ghost use Rattle.rules.specs.Judged.{judge};
+ghost use Rattle.verdict.specs.Consulted.{refusedBy, consulted};
+ghost use Rattle.verdict.specs.Laid.{LaidToJudge, LaidToModel, Judgeable, Modelable};
+
+// The check, on the parts of the arrays that are in use.
+fn judge_part<'a>(
+    kinds: &'a [u16],
+    firsts: &'a [u16],
+    heads: &'a [u16],
+    starts: &'a [u16],
+    literals: &'a [u16],
+    owners: &'a [u16],
+    atoms: u16,
+    many: u16,
+    seats: u16,
+) -> Judgement
+    requires { ⌜ Judgeable (now kinds) (now firsts) (now heads) (now starts) (now literals) (now owners) atoms many seats ⌝ }
+    ensures { λ j. ⌜ Judges (LaidToJudge (now (kinds .entry)) (now (firsts .entry)) (now (heads .entry)) (now (starts .entry)) (now (literals .entry)) (now (owners .entry)) atoms many seats) Ruled j ⌝ }
+{
+    let a = atoms as usize;
+    let n = many as usize;
+    let m = starts[n] as usize;
+    judge::judge_arrays(
+        &kinds[0..a],
+        &firsts[0..a],
+        &heads[0..n],
+        &starts[0..n + 1],
+        &literals[0..m],
+        &owners[0..m],
+        seats as usize,
+    )
+}
+
+// The model, on the parts of the arrays that are in use.
+fn truth_part<'s, 'a>(
+    position: &'s [u8; 512],
+    choices: &'s [u16; 8],
+    kinds: &'a [u16],
+    firsts: &'a [u16],
+    seconds: &'a [u16],
+    heads: &'a [u16],
+    starts: &'a [u16],
+    literals: &'a [u16],
+    levels: &[u16; 1024],
+    top: u16,
+    atoms: u16,
+    many: u16,
+) -> [u8; 1024]
+    requires { ⌜ Modelable (now kinds) (now firsts) (now seconds) (now heads) (now starts) (now literals) (now levels) top atoms many ⌝ }
+    ensures { λ r. ⌜ ((G : Game) → LaidToModel (now (kinds .entry)) (now (firsts .entry)) (now (seconds .entry)) (now (heads .entry)) (now (starts .entry)) (now (literals .entry)) atoms many G → Modelled G (now (position .entry)) (now (choices .entry)) r) ⌝ }
+{
+    let a = atoms as usize;
+    let n = many as usize;
+    let m = starts[n] as usize;
+    truth::model_of(
+        position,
+        choices,
+        &kinds[0..a],
+        &firsts[0..a],
+        &seconds[0..a],
+        &heads[0..n],
+        &starts[0..n + 1],
+        &literals[0..m],
+        levels,
+        top,
+    )
+}
+
+// What a call learns from a table: the refusal, all else blank; or the header, the atoms, and a flag for each atom that is true.
+pub struct Consulted {
+    pub refusal: Refusal,
+    pub header: Header,
+    pub kinds: [u16; 1024],
+    pub firsts: [u16; 1024],
+    pub seconds: [u16; 1024],
+    pub flags: [u8; 1024],
+}
+
+fn no_atoms() -> [u16; 1024]
+    ensures { λ r. ⌜ r ≡ blank 1024 ⌝ }
+{
+    [0; 1024]
+}
+
+fn no_flags() -> [u8; 1024]
+    ensures { λ r. ⌜ r ≡ blank 1024 ⌝ }
+{
+    [0; 1024]
+}
+
+fn refused(refusal: Refusal) -> Consulted
+    ensures { λ r. ⌜ r ≡ refusedBy refusal ⌝ }
+{
+    Consulted {
+        refusal,
+        header: table::header::no_header(),
+        kinds: no_atoms(),
+        firsts: no_atoms(),
+        seconds: no_atoms(),
+        flags: no_flags(),
+    }
+}
+
+// The verdict on a table and, where it is accepted, the model of a position and a joint choice.
+pub fn consult(s: &[u8], position: [u8; 512], choices: [u16; 8]) -> Consulted
+    ensures { λ r. ⌜ r ≡ consulted (judge (now (s .entry))) position choices ⌝ }
+{
+    let t = table::tables::read_table(s);
+    let unread = t.refusal;
+    if number_of(unread) != 0 {
+        return refused(unread);
+    }
+    let header = t.header;
+    let atoms = header.sizes.atoms;
+    let many = t.many;
+    let j = judge_part(&t.kinds, &t.firsts, &t.heads, &t.starts, &t.literals, &t.owners, atoms, many, header.players.seats);
+    let broken = j.refusal;
+    if number_of(broken) != 0 {
+        return refused(broken);
+    }
+    let levels = j.levels;
+    let flags = truth_part(&position, &choices, &t.kinds, &t.firsts, &t.seconds, &t.heads, &t.starts, &t.literals, &levels, j.top, atoms, many);
+    let kinds = t.kinds;
+    let firsts = t.firsts;
+    let seconds = t.seconds;
+    Consulted {
+        refusal: Refusal::Success,
+        header,
+        kinds,
+        firsts,
+        seconds,
+        flags,
+    }
+}
