@@ -1,4 +1,4 @@
--- Lists of flags, each 0 or 1: two of one length that stand for the same set are equal, and the computed model is such a list.
+-- Lists of flags, each 0 or 1: two of one length that stand for the same set are equal, and the computed model and the computed reach are such lists.
 use mathlib.Core.Path.{_≡_, refl, sym, ap₂, subst, _∙_}
 use mathlib.Core.Logic.{_⊎_, inl, inr}
 use mathlib.Core.Bool.{Bool, true, false, cond}
@@ -11,8 +11,9 @@ use Rattle.gdl.specs.Game.{Game, Clause, Atom}
 use Rattle.gdl.specs.Sets.{Atoms}
 use Rattle.gdl.specs.Standard.{headOf, levelTest}
 use Rattle.gdl.specs.Truth.{isFact}
+use Rattle.gdl.specs.Reach.{isSeed}
 use Rattle.gdl.specs.Flags.{on, bit, put, count}
-use Rattle.gdl.specs.Computed.{did, pass, passes, close, run, facts, levelsOf, look, model}
+use Rattle.gdl.specs.Computed.{did, pass, passes, close, run, facts, levelsOf, look, model, linkTo, linkTest, clauseLinks, trueLinks, reachOf}
 
 abbrev pub Bits : List ℕ → Type 0
 Bits [] = Unit {0}
@@ -79,3 +80,7 @@ map-bits f (a ∷ l) = (go (f a), map-bits f l)
 pub model-bits : (G : Game) (pos ch : List ℕ) → Bits (model G pos ch)
 unfolding model facts
 model-bits G pos ch = run-bits (G .clauses) (look (levelsOf G)) (facts G pos ch) (suc (length (G .atoms))) (map-bits (isFact (on pos) (did ch)) (G .atoms))
+
+pub reach-bits : (G : Game) (z : ℕ) → Bits (reachOf G z)
+unfolding reachOf
+reach-bits G z = close-bits linkTo linkTest (clauseLinks (G .clauses) (trueLinks (G .atoms) 0 (G .atoms))) (map (λ a. bit (isSeed z a)) (G .atoms)) (map-bits (isSeed z) (G .atoms))

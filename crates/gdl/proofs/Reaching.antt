@@ -12,7 +12,7 @@ use Rattle.gdl.specs.Valid.{Valid}
 use Rattle.gdl.specs.Flags.{on, bit}
 use Rattle.gdl.specs.Computed.{Link, linkTo, linkTest, reachOf, anyOf, hidden}
 use Rattle.gdl.proofs.Tests.{and-both, and-elim, same}
-use Rattle.gdl.proofs.Closing.{close-closed, close-ind}
+use Rattle.gdl.proofs.Closing.{close-length, close-closed, close-ind}
 use Rattle.gdl.proofs.Reading.{any-make, any-find, flags-on}
 use Rattle.gdl.proofs.Linking.{links, arrow, Leads, toBody, toNext, leads-linked, links-lead}
 
@@ -29,6 +29,10 @@ module _ (G : Game) (v : Valid G) (z : ℕ) where
       go : {p q : ℕ} → Leads G p q → q < length (G .atoms)
       go (toBody c m x k) = v .bodies c m x k
       go (toNext f pl ql t u) = ql
+
+  pub reach-length : length (reachOf G z) ≡ length (G .atoms)
+  unfolding reachOf
+  reach-length = close-length linkTo linkTest link-mono (length (G .atoms)) (links G) fit seedFlags (length-map (G .atoms) _)
 
   closed : Closed linkTo linkTest (links G) (on seedFlags) (on (reachOf G z))
   unfolding reachOf

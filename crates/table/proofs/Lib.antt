@@ -6,3 +6,4 @@ pub mod ClauseRecords
 pub mod Whole
 pub mod Examples
 pub mod Faults
+pub mod Ascending

@@ -22,7 +22,7 @@ use Rattle.gdl.proofs.Modelled.{model-is, model-length}
 use Rattle.gdl.proofs.Walks.{zeros}
 use Rattle.table.specs.Parse.{Parse, ok, fault}
 use Rattle.table.specs.Table.{table}
-use Rattle.table.specs.Says.{headerOf, decoded}
+use Rattle.table.specs.Says.{blankHeader, headerOf, decoded}
 use Rattle.table.specs.declared.tables.Table.{Table}
 use Rattle.table.proofs.Faults.{Faulty, table-faulty}
 use Rattle.rules.specs.Rules.{Ruled}
@@ -36,8 +36,9 @@ use Rattle.judge.specs.declared.Judgement.{Judgement}
 use Rattle.truth.specs.Promise.{Modelled}
 use Rattle.truth.proofs.Modelled.{modelled-any}
 use Rattle.verdict.specs.Laid.{Laid, LaidToJudge, LaidToModel, Judgeable, Modelable}
-use Rattle.verdict.specs.Consulted.{refusedBy, consulted}
+use Rattle.verdict.specs.Consulted.{refusedBy, consulted, examined}
 use Rattle.verdict.specs.declared.Consulted.{Consulted}
+use Rattle.verdict.specs.declared.Examined.{Examined}
 
 -- ---- flags of the model
 
@@ -54,7 +55,7 @@ more-blank [] zero b = tt
 more-blank [] (suc n) b = (inl refl, more-blank [] n b)
 more-blank (x ∷ l) n b = (b .0, more-blank l n (b .1))
 
-on-blank : (l : List ℕ) (n p : ℕ) → on l p ≡ on (l ++ blank n) p
+pub on-blank : (l : List ℕ) (n p : ℕ) → on l p ≡ on (l ++ blank n) p
 on-blank [] n p = ap (λ (x : ℕ). eqb x 1) (sym (zeros n p))
 on-blank (x ∷ l) n zero = refl
 on-blank (x ∷ l) n (suc p) = on-blank l n p
@@ -141,3 +142,22 @@ module _ {s : List ℕ} {t : Table} (r : Read s t) where
 
     pub broken-consulted : (numberOf (j .refusal) ≡ 0 → ⊥) → (y : Consulted) (pos ch : List ℕ) → y ≡ refusedBy (j .refusal) → y ≡ consulted (judge s) pos ch
     broken-consulted n y pos ch h = rw (← (refused-verdict n)) h
+
+-- ---- the verdict alone
+
+pub unread-examined : (s : List ℕ) (t : Table) → t ≡ decoded (table s 0) → (numberOf (t .refusal) ≡ 0 → ⊥) → (y : Examined) → y ≡ record { refusal = t .refusal; header = blankHeader } → y ≡ examined (judge s)
+unread-examined s t e n y h = go (table s 0) refl
+  where
+    go : (p : Parse Game) → table s 0 ≡ p → y ≡ examined (judge s)
+    go (ok G m) q = absurd (n (ap (λ (x : Table). numberOf (x .refusal)) (rw q at e)))
+    go (fault r) q =
+        let f : t .refusal ≡ r = ap (λ (x : Table). x .refusal) (rw q at e) in
+        rw (← (fault-judge s r q), ← f) h
+
+module _ {s : List ℕ} {t : Table} (r : Read s t) {j : Judgement}
+    (a : Judges (LaidToJudge (t .kinds) (t .firsts) (t .heads) (t .starts) (t .literals) (t .owners) (t .header .sizes .atoms) (t .many) (t .header .players .seats)) Ruled j) where
+  pub broken-examined : (numberOf (j .refusal) ≡ 0 → ⊥) → (y : Examined) → y ≡ record { refusal = j .refusal; header = blankHeader } → y ≡ examined (judge s)
+  broken-examined n y h = rw (← (refused-verdict r a n)) h
+
+  pub fit-examined : numberOf (j .refusal) ≡ 0 → _≡_ {A = Examined} (record { refusal = Success; header = t .header }) (examined (judge s))
+  fit-examined z = rw (← (fit-verdict r a z)) (cc (ap (λ (x : Table). x .header) (r .is)))

@@ -17,13 +17,14 @@ use Rattle.rules.specs.Verdict.{Verdict}
 use Rattle.judge.specs.Judgement.{Held, HoldsGame, Judges}
 use Rattle.judge.specs.declared.Judgement.{Judgement}
 use Rattle.truth.specs.Promise.{Ready}
+use Rattle.verdict.specs.Consulted.{cut}
 use Rattle.verdict.specs.Laid.{Laid, LaidToJudge, LaidToModel, Judgeable, Modelable}
 
 -- the part in use of a room
-part-used : (n : ℕ) (xs : List ℕ) → length xs ≤ n → take (length xs) (sets (blank n) 0 xs) ≡ xs
+pub part-used : (n : ℕ) (xs : List ℕ) → length xs ≤ n → take (length xs) (sets (blank n) 0 xs) ≡ xs
 part-used n xs h = rw (sets-eq xs (blank n) 0 (omega (arith, length-replicate {A = ℕ} n 0))) (take-append-seam xs (drop (0 + length xs) (blank n)))
 
-room-long : (n : ℕ) (xs : List ℕ) → length (sets (blank n) 0 xs) ≡ n
+pub room-long : (n : ℕ) (xs : List ℕ) → length (sets (blank n) 0 xs) ≡ n
 room-long n xs = length-sets (blank n) 0 xs ∙ length-replicate {A = ℕ} n 0
 
 -- the last place of the starts is the number of literals
@@ -77,10 +78,6 @@ module _ {kinds firsts heads starts literals : List ℕ} {atoms many : ℕ} {G :
 
       used : getD starts many 0 ≡ length (literalsOf (G .clauses))
       used = sym (getD-take (many + 1) starts many 0 (omega arith)) ∙ (ap (λ (l : List ℕ). getD l many 0) starts-part ∙ rw (h .many-are) (last-start 0 (G .clauses) ∙ omega arith))
-
--- a part of a slice from 0 on, as code cuts it
-abbrev pub cut : ℕ → List ℕ → List ℕ
-cut n l = take (n - 0) l
 
 module _ {kinds firsts heads starts literals owners : List ℕ} {atoms many seats : ℕ} where
   -- the part of the owners in use, and how long the room is

@@ -1,2 +1,3 @@
 pub mod Laying
 pub mod Consulting
+pub mod Marks

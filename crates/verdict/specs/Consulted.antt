@@ -1,7 +1,8 @@
 -- What a call learns from a table: the refusal, all else blank; or the header, the atoms, and what is true in a position with choices.
 use mathlib.Core.List.{List, _++_}
-use Prim.Native.Nat.{ℕ, _-_}
-use lib.ListN.{length}
+use mathlib.Core.Path.{_≡_}
+use Prim.Native.Nat.{ℕ, _-_, _≤_}
+use lib.ListN.{length, take}
 use lib.Seq.{sets}
 use Rattle.refusals.specs.declared.Refusal.{Refusal}
 use Rattle.refusals.specs.declared.Refusal.the-variants.{Success}
@@ -12,6 +13,7 @@ use Rattle.gdl.specs.Computed.{model}
 use Rattle.table.specs.Says.{blankHeader, headerOf}
 use Rattle.rules.specs.Verdict.{Verdict, unfit, fit}
 use Rattle.verdict.specs.declared.Consulted.{Consulted}
+use Rattle.verdict.specs.declared.Examined.{Examined}
 
 abbrev pub refusedBy : Refusal → Consulted
 refusedBy f = record { refusal = f; header = blankHeader; kinds = blank 1024; firsts = blank 1024; seconds = blank 1024; flags = blank 1024 }
@@ -26,3 +28,26 @@ consulted (fit G) pos ch = record {
   seconds = sets (blank 1024) 0 (secondsOf (G .atoms));
   flags = model G pos ch ++ blank (1024 - length (G .atoms));
 }
+
+-- an accepted table was consulted
+pub record Fit (c : Consulted) : Type 0 where
+  pub game : Game
+  pub pos : List ℕ
+  pub ch : List ℕ
+  pub is : c ≡ consulted (fit game) pos ch
+  pub few : length (game .atoms) ≤ 1024
+
+abbrev pub examined : Verdict → Examined
+examined (unfit f) = record { refusal = f; header = blankHeader }
+examined (fit G) = record { refusal = Success; header = headerOf G }
+
+-- a part of a slice from 0 on, as code cuts it
+abbrev pub cut : ℕ → List ℕ → List ℕ
+cut n l = take (n - 0) l
+
+pub record Columns (kinds firsts seconds : List ℕ) (atoms width : ℕ) : Type 0 where
+  pub few : atoms ≤ 1024
+  pub kinds-long : atoms ≤ length kinds
+  pub firsts-long : atoms ≤ length firsts
+  pub seconds-long : atoms ≤ length seconds
+  pub narrow : width ≤ 256

@@ -10,7 +10,16 @@ ghost use Rattle.rules.specs.Rules.{Ruled};
 ghost use Rattle.truth.specs.Promise.{Modelled};
 ghost use Rattle.gdl.specs.Flags.{blank};
 ghost use Rattle.rules.specs.Judged.{judge};
-ghost use Rattle.verdict.specs.Consulted.{refusedBy, consulted};
+ghost use mathlib.Core.List.{List};
+ghost use Prim.Native.Nat.{ℕ, _≤_};
+ghost use lib.ListN.{length};
+ghost use Rattle.gdl.specs.Flags.{on};
+ghost use Rattle.gdl.specs.Computed.{model};
+ghost use Rattle.rules.specs.Verdict.{fit};
+ghost use Rattle.table.specs.Says.{blankHeader};
+ghost use Rattle.truth.specs.Reading.{atomsOf};
+ghost use Rattle.truth.specs.Marks.{marksOf};
+ghost use Rattle.verdict.specs.Consulted.{refusedBy, consulted, examined, Fit, cut, Columns};
 ghost use Rattle.verdict.specs.Laid.{LaidToJudge, LaidToModel, Judgeable, Modelable};
 
 // The check, on the parts of the arrays that are in use.
@@ -142,4 +151,75 @@ pub fn consult(s: &[u8], position: [u8; 512], choices: [u16; 8]) -> Consulted
         seconds,
         flags,
     }
+}
+
+// The verdict on a table, and its header.
+pub struct Examined {
+    pub refusal: Refusal,
+    pub header: Header,
+}
+
+fn unexamined(refusal: Refusal) -> Examined
+    ensures { λ r. ⌜ r ≡ record { refusal = refusal; header = blankHeader } ⌝ }
+{
+    Examined {
+        refusal,
+        header: table::header::no_header(),
+    }
+}
+
+// The verdict on a table.
+pub fn examine(s: &[u8]) -> Examined
+    ensures { λ r. ⌜ r ≡ examined (judge (now (s .entry))) ⌝ }
+{
+    let t = table::tables::read_table(s);
+    let unread = t.refusal;
+    if number_of(unread) != 0 {
+        return unexamined(unread);
+    }
+    let header = t.header;
+    let j = judge_part(
+        &t.kinds,
+        &t.firsts,
+        &t.heads,
+        &t.starts,
+        &t.literals,
+        &t.owners,
+        header.sizes.atoms,
+        t.many,
+        header.players.seats,
+    );
+    let broken = j.refusal;
+    if number_of(broken) != 0 {
+        return unexamined(broken);
+    }
+    Examined {
+        refusal: Refusal::Success,
+        header,
+    }
+}
+
+// The marks of the atoms of a kind that are true, on the parts of the arrays that are in use.
+fn marks_part<'a>(
+    kinds: &'a [u16],
+    firsts: &'a [u16],
+    seconds: &'a [u16],
+    flags: &'a [u8; 1024],
+    atoms: u16,
+    kind: u16,
+    width: usize,
+) -> [u8; 2048]
+    requires { ⌜ Columns (now kinds) (now firsts) (now seconds) atoms width ⌝ }
+    ensures { λ r. ⌜ r ≡ marksOf kind width (atomsOf (cut atoms (now (kinds .entry))) (cut atoms (now (firsts .entry))) (cut atoms (now (seconds .entry)))) (on (now (flags .entry))) ⌝ }
+{
+    let a = atoms as usize;
+    truth::marks::marks_of(&kinds[0..a], &firsts[0..a], &seconds[0..a], flags, kind, width)
+}
+
+// Which fields the atoms of a kind have that are true: place first * width + second is marked.
+pub fn marks_in(found: Consulted, kind: u16, width: usize) -> [u8; 2048]
+    requires { ⌜ Fit found × (width ≤ 256) ⌝ }
+    ensures { λ r. ⌜ ((G : Game) (pos ch : List ℕ) → found ≡ consulted (fit G) pos ch → length (G .atoms) ≤ 1024 → r ≡ marksOf kind width (G .atoms) (on (model G pos ch))) ⌝ }
+{
+    marks_part(&found.kinds, &found.firsts, &found.seconds, &found.flags, found.header.sizes.atoms, kind, width)
 }

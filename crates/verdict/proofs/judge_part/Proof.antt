@@ -4,102 +4,76 @@ use borrow.Author.Needs.{needs}
 use Rattle.verdict.proofs.judge_part.Statement.{statement}
 use Rattle.verdict.proofs.judge_part.Tie as tie
 use Rattle.verdict.proofs.judge_part.Reads as reads
-use Rattle.verdict.proofs.judge_part.Lts as lts
-use Rattle.judge.proofs.judge_arrays.Reads as judge-arrays-reads
 
--- src/lib.rt:30:13
 mul-m : tie.Need-mul-m
 mul-m c = search needs
 
--- src/lib.rt:30:13
 shared-slice-read-m : tie.Need-shared-slice-read-m
 shared-slice-read-m c = omega (arith, ends (c .before .before .before .before .before .before .before .pre) .starts-end)
 
--- src/lib.rt:30:13
 cast-m : tie.Need-cast-m
 cast-m c = omega (arith, ends (c .before .before .before .before .before .before .before .pre) .small)
 
--- src/lib.rt:32:9
 sub-judge-arrays : tie.Need-sub-judge-arrays
 sub-judge-arrays c = search needs
 
--- src/lib.rt:32:9
 part-judge-arrays-start : tie.Need-part-judge-arrays-start
 part-judge-arrays-start c = search needs
 
--- src/lib.rt:32:9
 part-judge-arrays-end : tie.Need-part-judge-arrays-end
 part-judge-arrays-end c = omega (arith, ends (c .before .before .before .before .before .before .before .pre) .kinds-end)
 
--- src/lib.rt:33:9
 sub-judge-arrays-2 : tie.Need-sub-judge-arrays-2
 sub-judge-arrays-2 c = search needs
 
--- src/lib.rt:33:9
 part-judge-arrays-start-2 : tie.Need-part-judge-arrays-start-2
 part-judge-arrays-start-2 c = search needs
 
--- src/lib.rt:33:9
 part-judge-arrays-end-2 : tie.Need-part-judge-arrays-end-2
 part-judge-arrays-end-2 c = omega (arith, ends (c .before .before .before .before .before .before .before .before .pre) .firsts-end)
 
--- src/lib.rt:34:9
 sub-judge-arrays-3 : tie.Need-sub-judge-arrays-3
 sub-judge-arrays-3 c = search needs
 
--- src/lib.rt:34:9
 part-judge-arrays-start-3 : tie.Need-part-judge-arrays-start-3
 part-judge-arrays-start-3 c = search needs
 
--- src/lib.rt:34:9
 part-judge-arrays-end-3 : tie.Need-part-judge-arrays-end-3
 part-judge-arrays-end-3 c = omega (arith, ends (c .before .before .before .before .before .before .before .before .before .pre) .heads-end)
 
--- src/lib.rt:35:20
 add-judge-arrays : tie.Need-add-judge-arrays
 add-judge-arrays c = search needs
 
--- src/lib.rt:35:9
 sub-judge-arrays-4 : tie.Need-sub-judge-arrays-4
 sub-judge-arrays-4 c = search needs
 
--- src/lib.rt:35:9
 part-judge-arrays-start-4 : tie.Need-part-judge-arrays-start-4
 part-judge-arrays-start-4 c = search needs
 
--- src/lib.rt:35:9
 part-judge-arrays-end-4 : tie.Need-part-judge-arrays-end-4
 part-judge-arrays-end-4 c = omega (arith, ends (c .before .before .before .before .before .before .before .before .before .before .pre) .starts-end)
 
--- src/lib.rt:36:9
 sub-judge-arrays-5 : tie.Need-sub-judge-arrays-5
 sub-judge-arrays-5 c = search needs
 
--- src/lib.rt:36:9
 part-judge-arrays-start-5 : tie.Need-part-judge-arrays-start-5
 part-judge-arrays-start-5 c = search needs
 
--- src/lib.rt:36:9
 part-judge-arrays-end-5 : tie.Need-part-judge-arrays-end-5
 part-judge-arrays-end-5 c = omega (arith, ends (c .before .before .before .before .before .before .before .before .before .before .before .pre) .literals-end)
 
--- src/lib.rt:37:9
 sub-judge-arrays-6 : tie.Need-sub-judge-arrays-6
 sub-judge-arrays-6 c = search needs
 
--- src/lib.rt:37:9
 part-judge-arrays-start-6 : tie.Need-part-judge-arrays-start-6
 part-judge-arrays-start-6 c = search needs
 
--- src/lib.rt:37:9
 part-judge-arrays-end-6 : tie.Need-part-judge-arrays-end-6
 part-judge-arrays-end-6 c = omega (arith, ends (c .before .before .before .before .before .before .before .before .before .before .before .before .pre) .owners-end)
 
--- src/lib.rt:31:5
 judge-arrays-requires : tie.Need-judge-arrays-requires
 judge-arrays-requires c κs = holds-part (c .before .before .before .before .before .before .before .before .before .before .before .before .before .pre)
 
--- src/lib.rt:14:1
 returns : tie.Need-returns
 returns c = judges-part (c .judge-arrays .ensures)
 

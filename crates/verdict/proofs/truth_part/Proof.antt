@@ -4,102 +4,76 @@ use borrow.Author.Needs.{needs}
 use Rattle.verdict.proofs.truth_part.Statement.{statement}
 use Rattle.verdict.proofs.truth_part.Tie as tie
 use Rattle.verdict.proofs.truth_part.Reads as reads
-use Rattle.verdict.proofs.truth_part.Lts as lts
-use Rattle.truth.proofs.model_of.Reads as model-of-reads
 
--- src/lib.rt:62:13
 mul-m : tie.Need-mul-m
 mul-m c = search needs
 
--- src/lib.rt:62:13
 shared-slice-read-m : tie.Need-shared-slice-read-m
 shared-slice-read-m c = omega (arith, model-ends (c .before .before .before .before .before .before .before .pre) .starts-end)
 
--- src/lib.rt:62:13
 cast-m : tie.Need-cast-m
 cast-m c = omega (arith, model-ends (c .before .before .before .before .before .before .before .pre) .small)
 
--- src/lib.rt:66:9
 sub-model-of : tie.Need-sub-model-of
 sub-model-of c = search needs
 
--- src/lib.rt:66:9
 part-model-of-start : tie.Need-part-model-of-start
 part-model-of-start c = search needs
 
--- src/lib.rt:66:9
 part-model-of-end : tie.Need-part-model-of-end
 part-model-of-end c = omega (arith, model-ends (c .before .before .before .before .before .before .before .pre) .kinds-end)
 
--- src/lib.rt:67:9
 sub-model-of-2 : tie.Need-sub-model-of-2
 sub-model-of-2 c = search needs
 
--- src/lib.rt:67:9
 part-model-of-start-2 : tie.Need-part-model-of-start-2
 part-model-of-start-2 c = search needs
 
--- src/lib.rt:67:9
 part-model-of-end-2 : tie.Need-part-model-of-end-2
 part-model-of-end-2 c = omega (arith, model-ends (c .before .before .before .before .before .before .before .before .pre) .firsts-end)
 
--- src/lib.rt:68:9
 sub-model-of-3 : tie.Need-sub-model-of-3
 sub-model-of-3 c = search needs
 
--- src/lib.rt:68:9
 part-model-of-start-3 : tie.Need-part-model-of-start-3
 part-model-of-start-3 c = search needs
 
--- src/lib.rt:68:9
 part-model-of-end-3 : tie.Need-part-model-of-end-3
 part-model-of-end-3 c = omega (arith, model-ends (c .before .before .before .before .before .before .before .before .before .pre) .seconds-end)
 
--- src/lib.rt:69:9
 sub-model-of-4 : tie.Need-sub-model-of-4
 sub-model-of-4 c = search needs
 
--- src/lib.rt:69:9
 part-model-of-start-4 : tie.Need-part-model-of-start-4
 part-model-of-start-4 c = search needs
 
--- src/lib.rt:69:9
 part-model-of-end-4 : tie.Need-part-model-of-end-4
 part-model-of-end-4 c = omega (arith, model-ends (c .before .before .before .before .before .before .before .before .before .before .pre) .heads-end)
 
--- src/lib.rt:70:20
 add-model-of : tie.Need-add-model-of
 add-model-of c = search needs
 
--- src/lib.rt:70:9
 sub-model-of-5 : tie.Need-sub-model-of-5
 sub-model-of-5 c = search needs
 
--- src/lib.rt:70:9
 part-model-of-start-5 : tie.Need-part-model-of-start-5
 part-model-of-start-5 c = search needs
 
--- src/lib.rt:70:9
 part-model-of-end-5 : tie.Need-part-model-of-end-5
 part-model-of-end-5 c = omega (arith, model-ends (c .before .before .before .before .before .before .before .before .before .before .before .pre) .starts-end)
 
--- src/lib.rt:71:9
 sub-model-of-6 : tie.Need-sub-model-of-6
 sub-model-of-6 c = search needs
 
--- src/lib.rt:71:9
 part-model-of-start-6 : tie.Need-part-model-of-start-6
 part-model-of-start-6 c = search needs
 
--- src/lib.rt:71:9
 part-model-of-end-6 : tie.Need-part-model-of-end-6
 part-model-of-end-6 c = omega (arith, model-ends (c .before .before .before .before .before .before .before .before .before .before .before .before .pre) .literals-end)
 
--- src/lib.rt:63:5
 model-of-requires : tie.Need-model-of-requires
 model-of-requires c κs = model-ready (c .before .before .before .before .before .before .before .before .before .before .before .before .before .pre)
 
--- src/lib.rt:43:1
 returns : tie.Need-returns
 returns c = λ G h. c .model-of .ensures G (held-model h)
 

@@ -1,0 +1,4 @@
+pub mod Promise
+pub mod Seeds
+pub mod Trues
+pub mod Links

@@ -1,0 +1,13 @@
+use Rattle.verdict.proofs.Marks.{columns-of, marks-are}
+use Rattle.verdict.proofs.marks_in.Statement.{statement}
+use Rattle.verdict.proofs.marks_in.Tie as tie
+use Rattle.verdict.proofs.marks_in.Reads as reads
+
+marks-part-requires : tie.Need-marks-part-requires
+marks-part-requires c κs = columns-of (c .before .before .before .before .before .before .before .before .pre .0) (c .before .before .before .before .before .before .before .before .pre .1)
+
+returns : tie.Need-returns
+returns c = λ G pos ch e few. marks-are (c .before .before .before .before .before .before .before .before .before .args .found) G pos ch e few _ _ _ (c .marks-part .ensures)
+
+pub marks-in-spec : {M : Type 1} → statement M
+marks-in-spec = tie.close (tie.spec marks-part-requires returns)
