@@ -16,7 +16,7 @@ use Rattle.refusals.proofs.Numbers.{zero-success}
 use Rattle.gdl.specs.Game.{Game}
 use Rattle.gdl.specs.Flags.{on, blank}
 use Rattle.gdl.specs.Valid.{Valid}
-use Rattle.gdl.specs.Computed.{model}
+use Rattle.gdl.specs.Computed.{model, reachOf}
 use Rattle.gdl.proofs.Bits.{Bits, model-bits, bits-same}
 use Rattle.gdl.proofs.Modelled.{model-is, model-length}
 use Rattle.gdl.proofs.Walks.{zeros}
@@ -33,10 +33,13 @@ use Rattle.rules.proofs.Judging.{fault-judge, read-judge}
 use Rattle.rules.proofs.Accepting.{accepted}
 use Rattle.judge.specs.Judgement.{verdictOf, Judges}
 use Rattle.judge.specs.declared.Judgement.{Judgement}
+use Rattle.table.proofs.Ascending.{one-true}
+use Rattle.reach.specs.Promise.{Reached}
+use Rattle.reach.proofs.Determined.{reached-is}
 use Rattle.truth.specs.Promise.{Modelled}
 use Rattle.truth.proofs.Modelled.{modelled-any}
-use Rattle.verdict.specs.Laid.{Laid, LaidToJudge, LaidToModel, Judgeable, Modelable}
-use Rattle.verdict.specs.Consulted.{refusedBy, consulted, examined}
+use Rattle.verdict.specs.Laid.{Laid, LaidToJudge, LaidToModel, Judgeable, Modelable, LaidToTrace, Traceable}
+use Rattle.verdict.specs.Consulted.{refusedBy, consulted, traced, examined}
 use Rattle.verdict.specs.declared.Consulted.{Consulted}
 use Rattle.verdict.specs.declared.Examined.{Examined}
 
@@ -142,6 +145,37 @@ module _ {s : List ℕ} {t : Table} (r : Read s t) where
 
     pub broken-consulted : (numberOf (j .refusal) ≡ 0 → ⊥) → (y : Consulted) (pos ch : List ℕ) → y ≡ refusedBy (j .refusal) → y ≡ consulted (judge s) pos ch
     broken-consulted n y pos ch h = rw (← (refused-verdict n)) h
+
+-- ---- reach
+
+pub unread-traced : (s : List ℕ) (t : Table) → t ≡ decoded (table s 0) → (numberOf (t .refusal) ≡ 0 → ⊥) → (y : Consulted) (z : ℕ) → y ≡ refusedBy (t .refusal) → y ≡ traced (judge s) z
+unread-traced s t e n y z h = go (table s 0) refl
+  where
+    go : (p : Parse Game) → table s 0 ≡ p → y ≡ traced (judge s) z
+    go (ok G m) q = absurd (n (ap (λ (x : Table). numberOf (x .refusal)) (rw q at e)))
+    go (fault r) q =
+        let f : t .refusal ≡ r = ap (λ (x : Table). x .refusal) (rw q at e) in
+        rw (← (fault-judge s r q), ← f) h
+
+module _ {s : List ℕ} {t : Table} (r : Read s t) where
+  to-trace : LaidToTrace (t .kinds) (t .firsts) (t .starts) (t .literals) (t .owners) (t .header .sizes .atoms) (t .many) (r .game)
+  to-trace = record { heads = t .heads; laid = to-judge r .laid; owners-are = to-judge r .owners-are }
+
+  pub traceable : Traceable (t .kinds) (t .firsts) (t .starts) (t .literals) (t .owners) (t .header .sizes .atoms) (t .many)
+  traceable = record { game = r .game; held = to-trace; oneTrue = one-true s (r .game) (r .end) (r .read) }
+
+  module _ {j : Judgement}
+      (a : Judges (LaidToJudge (t .kinds) (t .firsts) (t .heads) (t .starts) (t .literals) (t .owners) (t .header .sizes .atoms) (t .many) (t .header .players .seats)) Ruled j) where
+    pub broken-traced : (numberOf (j .refusal) ≡ 0 → ⊥) → (y : Consulted) (z : ℕ) → y ≡ refusedBy (j .refusal) → y ≡ traced (judge s) z
+    broken-traced n y z h = rw (← (refused-verdict r a n)) h
+
+    pub fit-traced : numberOf (j .refusal) ≡ 0 → (z : ℕ) (X : List ℕ)
+        → ((G : Game) → LaidToTrace (t .kinds) (t .firsts) (t .starts) (t .literals) (t .owners) (t .header .sizes .atoms) (t .many) G → Reached G z X)
+        → _≡_ {A = Consulted} (record { refusal = Success; header = t .header; kinds = t .kinds; firsts = t .firsts; seconds = t .seconds; flags = X }) (traced (judge s) z)
+    fit-traced e z X m =
+        let f : X ≡ reachOf (r .game) z ++ blank (1024 - length (r .game .atoms)) =
+        reached-is (accepted s (r .game) (sym (fit-verdict r a e)) .valid) (m (r .game) to-trace) (read-limits s (r .game) (r .end) (r .read) .atoms) in
+        rw (← (fit-verdict r a e)) (cc (f, ap (λ (x : Table). x .header) (r .is), ap (λ (x : Table). x .kinds) (r .is), ap (λ (x : Table). x .firsts) (r .is), ap (λ (x : Table). x .seconds) (r .is)))
 
 -- ---- the verdict alone
 

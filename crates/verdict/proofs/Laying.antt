@@ -17,8 +17,9 @@ use Rattle.rules.specs.Verdict.{Verdict}
 use Rattle.judge.specs.Judgement.{Held, HoldsGame, Judges}
 use Rattle.judge.specs.declared.Judgement.{Judgement}
 use Rattle.truth.specs.Promise.{Ready}
+use Rattle.reach.specs.Promise as R
 use Rattle.verdict.specs.Consulted.{cut}
-use Rattle.verdict.specs.Laid.{Laid, LaidToJudge, LaidToModel, Judgeable, Modelable}
+use Rattle.verdict.specs.Laid.{Laid, LaidToJudge, LaidToModel, Judgeable, Modelable, LaidToTrace, Traceable}
 
 -- the part in use of a room
 pub part-used : (n : ℕ) (xs : List ℕ) → length xs ≤ n → take (length xs) (sets (blank n) 0 xs) ≡ xs
@@ -212,3 +213,42 @@ module _ {kinds firsts seconds heads starts literals : List ℕ} {atoms many : �
       allowed = m .levelled .least .allowed;
       below = λ c k. m .levelled .top-is .above (c .head) (m .held .laid .limits .heads c k);
     }
+
+-- ---- reach
+
+module _ {kinds firsts starts literals owners : List ℕ} {atoms many : ℕ} where
+  owners-used : {G : Game} → LaidToTrace kinds firsts starts literals owners atoms many G → take (getD starts many 0) owners ≡ ownersOf (G .clauses)
+  owners-used {G} h = rw (parts (h .laid) .used, h .owners-are, ← (owners-long (G .clauses))) (part-used 8192 (ownersOf (G .clauses)) (omega (arith, owners-long (G .clauses), h .laid .limits .literals)))
+
+  pub held-trace : {G : Game} → LaidToTrace kinds firsts starts literals owners atoms many G
+      → R.Laid G (cut atoms kinds) (cut atoms firsts) (cut (getD starts many 0) literals) (cut (getD starts many 0) owners)
+  held-trace h =
+      let p = parts (h .laid) in
+      record { isKinds = rw sub-zero (p .kinds-part); isFirsts = rw sub-zero (p .firsts-part); isLiterals = rw sub-zero (p .literals-part); isOwners = rw sub-zero (owners-used h) }
+
+  module _ (t : Traceable kinds firsts starts literals owners atoms many) where
+    pub record TraceEnds : Type 0 where
+      pub kinds-end : atoms ≤ length kinds
+      pub firsts-end : atoms ≤ length firsts
+      pub starts-end : many + 1 ≤ length starts
+      pub literals-end : getD starts many 0 ≤ length literals
+      pub owners-end : getD starts many 0 ≤ length owners
+      pub small : getD starts many 0 ≤ 8192
+
+    pub trace-ends : TraceEnds
+    trace-ends =
+        let h = t .held in
+        let p = parts (h .laid) in
+        let l = h .laid .limits in
+        let o : length owners ≡ 8192 = rw (h .owners-are) (room-long 8192 (ownersOf (t .game .clauses))) in
+        record {
+          kinds-end = omega (arith, p .kinds-long, h .laid .atoms-are, l .atoms);
+          firsts-end = omega (arith, p .firsts-long, h .laid .atoms-are, l .atoms);
+          starts-end = omega (arith, p .starts-long, h .laid .many-are, l .clauses);
+          literals-end = omega (arith, p .literals-long, p .used, l .literals);
+          owners-end = omega (arith, p .used, l .literals);
+          small = omega (arith, p .used, l .literals);
+        }
+
+    pub trace-ready : R.Ready (cut atoms kinds) (cut atoms firsts) (cut (getD starts many 0) literals) (cut (getD starts many 0) owners)
+    trace-ready = record { game = t .game; laid = held-trace (t .held); small = small-game (t .held .laid .limits); oneTrue = t .oneTrue }

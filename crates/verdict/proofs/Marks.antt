@@ -9,19 +9,18 @@ use lib.Seq.{sets}
 use Rattle.gdl.specs.Game.{Atom, Game}
 use Rattle.gdl.specs.Flags.{on, blank}
 use Rattle.gdl.specs.Layout.{kindsOf, firstsOf, secondsOf}
-use Rattle.gdl.specs.Computed.{model, anyOf}
+use Rattle.gdl.specs.Computed.{anyOf}
 use Rattle.gdl.proofs.Reading.{any-agree}
 use Rattle.gdl.proofs.Walks.{flags-same}
-use Rattle.rules.specs.Verdict.{fit}
 use Rattle.truth.specs.Reading.{atomsOf}
 use Rattle.truth.specs.Marks.{isAt, marksOf}
 use Rattle.truth.proofs.Held.{atoms-back}
-use Rattle.verdict.specs.Consulted.{consulted, Fit, cut, Columns}
+use Rattle.verdict.specs.Consulted.{foundIn, Fit, cut, Columns}
 use Rattle.verdict.specs.declared.Consulted.{Consulted}
 use Rattle.verdict.proofs.Laying.{part-used, room-long}
 use Rattle.verdict.proofs.Consulting.{on-blank}
 
-module _ (c : Consulted) (G : Game) (pos ch : List ℕ) (e : c ≡ consulted (fit G) pos ch) (few : length (G .atoms) ≤ 1024) where
+module _ (c : Consulted) (G : Game) (X : List ℕ) (e : c ≡ foundIn G X) (few : length (G .atoms) ≤ 1024) where
   atoms-are : c .header .sizes .atoms ≡ length (G .atoms)
   atoms-are = ap (λ (x : Consulted). x .header .sizes .atoms) e
 
@@ -36,12 +35,12 @@ module _ (c : Consulted) (G : Game) (pos ch : List ℕ) (e : c ≡ consulted (fi
 
   pub marks-are : (kind width : ℕ) (r : List ℕ)
       → r ≡ marksOf kind width (atomsOf (cut (c .header .sizes .atoms) (c .kinds)) (cut (c .header .sizes .atoms) (c .firsts)) (cut (c .header .sizes .atoms) (c .seconds))) (on (c .flags))
-      → r ≡ marksOf kind width (G .atoms) (on (model G pos ch))
+      → r ≡ marksOf kind width (G .atoms) (on X)
   unfolding marksOf
   marks-are kind width r h =
       h ∙ (rw (atoms-read, ap (λ (x : Consulted). x .flags) e)
-      (flags-same (λ i. anyOf (isAt kind width i) (G .atoms) (on (model G pos ch ++ blank (1024 - length (G .atoms))))) (λ i. anyOf (isAt kind width i) (G .atoms) (on (model G pos ch))) 2048
-      (λ i lt. any-agree (isAt kind width i) d (G .atoms) _ _ (λ p pl t. sym (on-blank (model G pos ch) (1024 - length (G .atoms)) p)))))
+      (flags-same (λ i. anyOf (isAt kind width i) (G .atoms) (on (X ++ blank (1024 - length (G .atoms))))) (λ i. anyOf (isAt kind width i) (G .atoms) (on X)) 2048
+      (λ i lt. any-agree (isAt kind width i) d (G .atoms) _ _ (λ p pl t. sym (on-blank X (1024 - length (G .atoms)) p)))))
     where
       d : Atom
       d = record { kind = 0; first = 0; second = 0 }

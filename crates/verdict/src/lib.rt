@@ -14,13 +14,12 @@ ghost use mathlib.Core.List.{List};
 ghost use Prim.Native.Nat.{ℕ, _≤_};
 ghost use lib.ListN.{length};
 ghost use Rattle.gdl.specs.Flags.{on};
-ghost use Rattle.gdl.specs.Computed.{model};
-ghost use Rattle.rules.specs.Verdict.{fit};
 ghost use Rattle.table.specs.Says.{blankHeader};
 ghost use Rattle.truth.specs.Reading.{atomsOf};
 ghost use Rattle.truth.specs.Marks.{marksOf};
-ghost use Rattle.verdict.specs.Consulted.{refusedBy, consulted, examined, Fit, cut, Columns};
-ghost use Rattle.verdict.specs.Laid.{LaidToJudge, LaidToModel, Judgeable, Modelable};
+ghost use Rattle.verdict.specs.Consulted.{refusedBy, foundIn, consulted, traced, examined, Fit, cut, Columns};
+ghost use Rattle.reach.specs.Promise.{Reached};
+ghost use Rattle.verdict.specs.Laid.{LaidToJudge, LaidToModel, Judgeable, Modelable, LaidToTrace, Traceable};
 
 // The check, on the parts of the arrays that are in use.
 fn judge_part<'a>(
@@ -219,7 +218,68 @@ fn marks_part<'a>(
 // Which fields the atoms of a kind have that are true: place first * width + second is marked.
 pub fn marks_in(found: Consulted, kind: u16, width: usize) -> [u8; 2048]
     requires { ⌜ Fit found × (width ≤ 256) ⌝ }
-    ensures { λ r. ⌜ ((G : Game) (pos ch : List ℕ) → found ≡ consulted (fit G) pos ch → length (G .atoms) ≤ 1024 → r ≡ marksOf kind width (G .atoms) (on (model G pos ch))) ⌝ }
+    ensures { λ r. ⌜ ((G : Game) (X : List ℕ) → found ≡ foundIn G X → length (G .atoms) ≤ 1024 → r ≡ marksOf kind width (G .atoms) (on X)) ⌝ }
 {
     marks_part(&found.kinds, &found.firsts, &found.seconds, &found.flags, found.header.sizes.atoms, kind, width)
+}
+
+// The reach of a seat, on the parts of the arrays that are in use.
+fn reach_part<'a>(
+    kinds: &'a [u16],
+    firsts: &'a [u16],
+    starts: &'a [u16],
+    literals: &'a [u16],
+    owners: &'a [u16],
+    atoms: u16,
+    many: u16,
+    seat: u16,
+) -> [u8; 1024]
+    requires { ⌜ Traceable (now kinds) (now firsts) (now starts) (now literals) (now owners) atoms many ⌝ }
+    ensures { λ r. ⌜ ((G : Game) → LaidToTrace (now (kinds .entry)) (now (firsts .entry)) (now (starts .entry)) (now (literals .entry)) (now (owners .entry)) atoms many G → Reached G seat r) ⌝ }
+{
+    let a = atoms as usize;
+    let n = many as usize;
+    let m = starts[n] as usize;
+    reach::reach_of(&kinds[0..a], &firsts[0..a], &literals[0..m], &owners[0..m], seat)
+}
+
+// The verdict on a table and, where it is accepted, the reach of a seat.
+pub fn trace(s: &[u8], seat: u16) -> Consulted
+    ensures { λ r. ⌜ r ≡ traced (judge (now (s .entry))) seat ⌝ }
+{
+    let t = table::tables::read_table(s);
+    let unread = t.refusal;
+    if number_of(unread) != 0 {
+        return refused(unread);
+    }
+    let header = t.header;
+    let atoms = header.sizes.atoms;
+    let many = t.many;
+    let j = judge_part(
+        &t.kinds,
+        &t.firsts,
+        &t.heads,
+        &t.starts,
+        &t.literals,
+        &t.owners,
+        atoms,
+        many,
+        header.players.seats,
+    );
+    let broken = j.refusal;
+    if number_of(broken) != 0 {
+        return refused(broken);
+    }
+    let flags = reach_part(&t.kinds, &t.firsts, &t.starts, &t.literals, &t.owners, atoms, many, seat);
+    let kinds = t.kinds;
+    let firsts = t.firsts;
+    let seconds = t.seconds;
+    Consulted {
+        refusal: Refusal::Success,
+        header,
+        kinds,
+        firsts,
+        seconds,
+        flags,
+    }
 }

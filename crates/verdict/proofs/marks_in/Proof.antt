@@ -7,7 +7,7 @@ marks-part-requires : tie.Need-marks-part-requires
 marks-part-requires c κs = columns-of (c .before .before .before .before .before .before .before .before .pre .0) (c .before .before .before .before .before .before .before .before .pre .1)
 
 returns : tie.Need-returns
-returns c = λ G pos ch e few. marks-are (c .before .before .before .before .before .before .before .before .before .args .found) G pos ch e few _ _ _ (c .marks-part .ensures)
+returns c = λ G X e few. marks-are _ G X e few _ _ _ (c .marks-part .ensures)
 
 pub marks-in-spec : {M : Type 1} → statement M
 marks-in-spec = tie.close (tie.spec marks-part-requires returns)
