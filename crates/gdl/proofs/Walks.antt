@@ -63,11 +63,11 @@ flags-same f g n e = go 0 n (λ k a b. e k (omega arith))
     go i zero e = refl
     go i (suc n) e = ap₂ (λ (b : Bool) (r : List ℕ). bit b ∷ r) (e i (omega arith) (omega arith)) (go (suc i) n (λ k a b. e k (omega arith) (omega arith)))
 
-flags-length : (f : ℕ → Bool) (i n : ℕ) → length (flagsFrom f i n) ≡ n
+pub flags-length : (f : ℕ → Bool) (i n : ℕ) → length (flagsFrom f i n) ≡ n
 flags-length f i zero = refl
 flags-length f i (suc n) = ap suc (flags-length f (suc i) n)
 
-flag-is : (f : ℕ → Bool) (n k : ℕ) → k < n → getD (flags n f) k 0 ≡ bit (f k)
+pub flag-is : (f : ℕ → Bool) (n k : ℕ) → k < n → getD (flags n f) k 0 ≡ bit (f k)
 flag-is f n k lt = let e : 0 + k ≡ k = omega arith in flag-at f 0 n k lt ∙ ap (λ (x : ℕ). bit (f x)) e
 
 pub flags-set : (f : ℕ → Bool) (n k : ℕ) → k < n → set (flags n f) k 1 ≡ flags n (λ j. f j || eqb k j)

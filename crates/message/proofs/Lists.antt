@@ -74,6 +74,7 @@ module _ (flags : List ℕ) (start n : ℕ) where
           few = omega (arith, c .few);
           so-far = rw (those-snoc, length-append, last-length) (rw (e, c .so-far));
         }
+
     pub counting-ends : n ≤ i → many ≡ length (those n (from flags start))
     counting-ends le = let e : n ≡ i = omega (arith, c .within) in rw e (c .so-far)
 

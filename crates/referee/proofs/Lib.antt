@@ -14,3 +14,7 @@ pub mod Determining
 pub mod Shaping
 pub mod Checking
 pub mod Writing
+pub mod Reading
+pub mod Asking
+pub mod Offering
+pub mod Opening

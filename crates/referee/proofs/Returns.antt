@@ -2,9 +2,10 @@
 use mathlib.Core.Path.{_≡_, refl}
 use mathlib.Core.Bool.{true, false, _&&_}
 use mathlib.Core.List.{List, _++_}
-use Prim.Native.Nat.{ℕ}
+use Prim.Native.Nat.{ℕ, _+_}
 use lib.Dec.{eqb, leb, ltb}
-use lib.ListN.{length, drop}
+use native.Mathlib.Numerals.{add-one}
+use lib.ListN.{length, drop, set}
 use Rattle.refusals.specs.declared.Refusal.{Refusal}
 use Rattle.refusals.specs.declared.Refusal.the-variants.{Success, RoomTooShort, NoSuchSeat, NoSuchMove, AlreadyChosen, NotLegal, GameOver, NoChoice, BadShape, LastRound}
 use Rattle.refusals.specs.Ruling.{nowhere, found, lowest}
@@ -83,6 +84,12 @@ module _ (G : Game) (σ : Session) (s m : ℕ) where
             pub offer-done : legal G (σ .position) s m ≡ true → record { refusal = Success; session = stored σ s m } ≡ offer (fit G) σ s m
             unfolding offer offerTests
             offer-done f = rw (a, b, c, d, e, f) refl
+
+            -- the record as the code makes it
+            pub offer-stored : legal G (σ .position) s m ≡ true
+                → record { refusal = Success; session = record { position = σ .position; choices = set (σ .choices) s (m + 1); percepts = σ .percepts; round = σ .round } } ≡ offer (fit G) σ s m
+            unfolding stored
+            offer-stored f = rw (add-one m) (offer-done f)
 
 pub ruleset offers = (offer-unfit, offer-bad-shape, offer-over, offer-no-seat, offer-no-move, offer-chosen, offer-illegal, offer-done)
 

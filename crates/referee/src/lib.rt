@@ -1,6 +1,18 @@
-// The calls of the referee: what each answers. The check answers the refusal alone, and the model call the refusal and the lent room.
+// The calls of the referee. Each tests the table first, then the record or position, then what the page lists; nothing is kept between calls.
+// The check answers the refusal alone, and the model call the refusal and the lent room.
+mod positions; // limits, blank rooms, positions from marks
+mod moves; // offer, on an accepted table
+
+use gdl::Move;
+use gdl::Seat;
 use refusals::Refusal;
+use refusals::number_of;
 use session::Session;
+use session::bytes::blank_session;
+ghost use mathlib.Core.Path.{_≡_};
+ghost use Rattle.rules.specs.Judged.{judge};
+ghost use Rattle.referee.specs.Calls.{claim, openGame, offer};
+ghost use Rattle.referee.specs.Promises.{CheckPromise};
 
 pub struct Claimed {
     pub refusal: Refusal,
@@ -23,4 +35,61 @@ pub struct Sent {
 pub struct Looked {
     pub refusal: Refusal,
     pub hidden: u8,
+}
+
+// "check": the verdict on a table.
+pub fn check(table: &[u8]) -> Refusal
+    ensures { λ r. ⌜ CheckPromise (now (table .entry)) r ⌝ }
+{
+    let found = verdict::examine(table);
+    found.refusal
+}
+
+// "The claim is handed out on request." Nothing else depends on it.
+pub fn claim(table: &[u8]) -> Claimed
+    ensures { λ r. ⌜ r ≡ claim (judge (now (table .entry))) ⌝ }
+{
+    let found = verdict::examine(table);
+    let refusal = found.refusal;
+    Claimed {
+        refusal,
+        claim: found.header.players.claim,
+    }
+}
+
+// "Open starts at round 0 without choices or percepts."
+pub fn open_game(table: &[u8]) -> Moved
+    ensures { λ r. ⌜ r ≡ openGame (judge (now (table .entry))) ⌝ }
+{
+    let found = verdict::consult(table, positions::no_fluents(), positions::no_choices());
+    let refusal = found.refusal;
+    if number_of(refusal) != 0 {
+        return Moved {
+            refusal,
+            session: blank_session(),
+        };
+    }
+    let marks = verdict::marks_in(found, 2, 1);
+    Moved {
+        refusal: Refusal::Success,
+        session: Session {
+            position: positions::first_marks(marks),
+            choices: positions::no_choices(),
+            percepts: positions::no_percepts(),
+            round: 0,
+        },
+    }
+}
+
+// "Offer stores a legal move for a seat."
+pub fn offer(table: &[u8], session: Session, seat: Seat, choice: Move) -> Moved
+    ensures { λ r. ⌜ r ≡ offer (judge (now (table .entry))) session (seat .0) (choice .0) ⌝ }
+{
+    let position = session.position;
+    let found = verdict::consult(table, position, positions::no_choices());
+    let refusal = found.refusal;
+    if number_of(refusal) != 0 {
+        return Moved { refusal, session };
+    }
+    moves::offer_fit(found, session, seat, choice)
 }

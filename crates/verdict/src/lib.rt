@@ -132,13 +132,36 @@ pub fn consult(s: &[u8], position: [u8; 512], choices: [u16; 8]) -> Consulted
     let header = t.header;
     let atoms = header.sizes.atoms;
     let many = t.many;
-    let j = judge_part(&t.kinds, &t.firsts, &t.heads, &t.starts, &t.literals, &t.owners, atoms, many, header.players.seats);
+    let j = judge_part(
+        &t.kinds,
+        &t.firsts,
+        &t.heads,
+        &t.starts,
+        &t.literals,
+        &t.owners,
+        atoms,
+        many,
+        header.players.seats,
+    );
     let broken = j.refusal;
     if number_of(broken) != 0 {
         return refused(broken);
     }
     let levels = j.levels;
-    let flags = truth_part(&position, &choices, &t.kinds, &t.firsts, &t.seconds, &t.heads, &t.starts, &t.literals, &levels, j.top, atoms, many);
+    let flags = truth_part(
+        &position,
+        &choices,
+        &t.kinds,
+        &t.firsts,
+        &t.seconds,
+        &t.heads,
+        &t.starts,
+        &t.literals,
+        &levels,
+        j.top,
+        atoms,
+        many,
+    );
     let kinds = t.kinds;
     let firsts = t.firsts;
     let seconds = t.seconds;
@@ -212,7 +235,14 @@ fn marks_part<'a>(
     ensures { λ r. ⌜ r ≡ marksOf kind width (atomsOf (cut atoms (now (kinds .entry))) (cut atoms (now (firsts .entry))) (cut atoms (now (seconds .entry)))) (on (now (flags .entry))) ⌝ }
 {
     let a = atoms as usize;
-    truth::marks::marks_of(&kinds[0..a], &firsts[0..a], &seconds[0..a], flags, kind, width)
+    truth::marks::marks_of(
+        &kinds[0..a],
+        &firsts[0..a],
+        &seconds[0..a],
+        flags,
+        kind,
+        width,
+    )
 }
 
 // Which fields the atoms of a kind have that are true: place first * width + second is marked.
@@ -220,7 +250,15 @@ pub fn marks_in(found: Consulted, kind: u16, width: usize) -> [u8; 2048]
     requires { ⌜ Fit found × (width ≤ 256) ⌝ }
     ensures { λ r. ⌜ ((G : Game) (X : List ℕ) → found ≡ foundIn G X → length (G .atoms) ≤ 1024 → r ≡ marksOf kind width (G .atoms) (on X)) ⌝ }
 {
-    marks_part(&found.kinds, &found.firsts, &found.seconds, &found.flags, found.header.sizes.atoms, kind, width)
+    marks_part(
+        &found.kinds,
+        &found.firsts,
+        &found.seconds,
+        &found.flags,
+        found.header.sizes.atoms,
+        kind,
+        width,
+    )
 }
 
 // The reach of a seat, on the parts of the arrays that are in use.
@@ -240,7 +278,13 @@ fn reach_part<'a>(
     let a = atoms as usize;
     let n = many as usize;
     let m = starts[n] as usize;
-    reach::reach_of(&kinds[0..a], &firsts[0..a], &literals[0..m], &owners[0..m], seat)
+    reach::reach_of(
+        &kinds[0..a],
+        &firsts[0..a],
+        &literals[0..m],
+        &owners[0..m],
+        seat,
+    )
 }
 
 // The verdict on a table and, where it is accepted, the reach of a seat.
@@ -270,7 +314,16 @@ pub fn trace(s: &[u8], seat: u16) -> Consulted
     if number_of(broken) != 0 {
         return refused(broken);
     }
-    let flags = reach_part(&t.kinds, &t.firsts, &t.starts, &t.literals, &t.owners, atoms, many, seat);
+    let flags = reach_part(
+        &t.kinds,
+        &t.firsts,
+        &t.starts,
+        &t.literals,
+        &t.owners,
+        atoms,
+        many,
+        seat,
+    );
     let kinds = t.kinds;
     let firsts = t.firsts;
     let seconds = t.seconds;

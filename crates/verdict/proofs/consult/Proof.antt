@@ -3,7 +3,6 @@ use Rattle.verdict.proofs.Consulting.{was-read, unread-consulted, judge
 use borrow.Author.Needs.{needs}
 use Rattle.verdict.proofs.consult.Statement.{statement}
 use Rattle.verdict.proofs.consult.Tie as tie
-use Rattle.verdict.proofs.consult.Reads as reads
 
 read-table-requires : tie.Need-read-table-requires
 read-table-requires c κs = search needs

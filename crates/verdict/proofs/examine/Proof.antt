@@ -3,7 +3,6 @@ use Rattle.verdict.proofs.Consulting.{was-read, judgeable, unread-exami
 use borrow.Author.Needs.{needs}
 use Rattle.verdict.proofs.examine.Statement.{statement}
 use Rattle.verdict.proofs.examine.Tie as tie
-use Rattle.verdict.proofs.examine.Reads as reads
 
 read-table-requires : tie.Need-read-table-requires
 read-table-requires c κs = search needs

@@ -3,7 +3,6 @@ use Rattle.verdict.proofs.Laying.{ends, holds-part, judges-part}
 use borrow.Author.Needs.{needs}
 use Rattle.verdict.proofs.judge_part.Statement.{statement}
 use Rattle.verdict.proofs.judge_part.Tie as tie
-use Rattle.verdict.proofs.judge_part.Reads as reads
 
 mul-m : tie.Need-mul-m
 mul-m c = search needs

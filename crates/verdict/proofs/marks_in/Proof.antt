@@ -1,7 +1,6 @@
 use Rattle.verdict.proofs.Marks.{columns-of, marks-are}
 use Rattle.verdict.proofs.marks_in.Statement.{statement}
 use Rattle.verdict.proofs.marks_in.Tie as tie
-use Rattle.verdict.proofs.marks_in.Reads as reads
 
 marks-part-requires : tie.Need-marks-part-requires
 marks-part-requires c κs = columns-of (c .before .before .before .before .before .before .before .before .pre .0) (c .before .before .before .before .before .before .before .before .pre .1)

@@ -4,74 +4,55 @@ use borrow.Author.Needs.{needs}
 use Rattle.verdict.proofs.reach_part.Statement.{statement}
 use Rattle.verdict.proofs.reach_part.Tie as tie
 use Rattle.verdict.proofs.reach_part.Reads as reads
-use Rattle.verdict.proofs.reach_part.Lts as lts
-use Rattle.reach.proofs.reach_of.Reads as reach-of-reads
 
--- src/lib.rt:242:13
 mul-m : tie.Need-mul-m
 mul-m c = search needs
 
--- src/lib.rt:242:13
 shared-slice-read-m : tie.Need-shared-slice-read-m
 shared-slice-read-m c = omega (arith, trace-ends (c .before .before .before .before .before .before .pre) .starts-end)
 
--- src/lib.rt:242:13
 cast-m : tie.Need-cast-m
 cast-m c = omega (arith, trace-ends (c .before .before .before .before .before .before .pre) .small)
 
--- src/lib.rt:243:21
 sub-reach-of : tie.Need-sub-reach-of
 sub-reach-of c = search needs
 
--- src/lib.rt:243:21
 part-reach-of-start : tie.Need-part-reach-of-start
 part-reach-of-start c = search needs
 
--- src/lib.rt:243:21
 part-reach-of-end : tie.Need-part-reach-of-end
 part-reach-of-end c = omega (arith, trace-ends (c .before .before .before .before .before .before .pre) .kinds-end)
 
--- src/lib.rt:243:35
 sub-reach-of-2 : tie.Need-sub-reach-of-2
 sub-reach-of-2 c = search needs
 
--- src/lib.rt:243:35
 part-reach-of-start-2 : tie.Need-part-reach-of-start-2
 part-reach-of-start-2 c = search needs
 
--- src/lib.rt:243:35
 part-reach-of-end-2 : tie.Need-part-reach-of-end-2
 part-reach-of-end-2 c = omega (arith, trace-ends (c .before .before .before .before .before .before .before .pre) .firsts-end)
 
--- src/lib.rt:243:50
 sub-reach-of-3 : tie.Need-sub-reach-of-3
 sub-reach-of-3 c = search needs
 
--- src/lib.rt:243:50
 part-reach-of-start-3 : tie.Need-part-reach-of-start-3
 part-reach-of-start-3 c = search needs
 
--- src/lib.rt:243:50
 part-reach-of-end-3 : tie.Need-part-reach-of-end-3
 part-reach-of-end-3 c = omega (arith, trace-ends (c .before .before .before .before .before .before .before .before .pre) .literals-end)
 
--- src/lib.rt:243:67
 sub-reach-of-4 : tie.Need-sub-reach-of-4
 sub-reach-of-4 c = search needs
 
--- src/lib.rt:243:67
 part-reach-of-start-4 : tie.Need-part-reach-of-start-4
 part-reach-of-start-4 c = search needs
 
--- src/lib.rt:243:67
 part-reach-of-end-4 : tie.Need-part-reach-of-end-4
 part-reach-of-end-4 c = omega (arith, trace-ends (c .before .before .before .before .before .before .before .before .before .pre) .owners-end)
 
--- src/lib.rt:243:5
 reach-of-requires : tie.Need-reach-of-requires
 reach-of-requires c κs = trace-ready (c .before .before .before .before .before .before .before .before .before .before .pre)
 
--- src/lib.rt:227:1
 returns : tie.Need-returns
 returns c = λ G h. c .reach-of .ensures G (held-trace h)
 

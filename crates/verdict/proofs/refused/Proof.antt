@@ -1,7 +1,6 @@
 use borrow.Author.Needs.{needs}
 use Rattle.verdict.proofs.refused.Statement.{statement}
 use Rattle.verdict.proofs.refused.Tie as tie
-use Rattle.verdict.proofs.refused.Reads as reads
 
 no-header-requires : tie.Need-no-header-requires
 no-header-requires c κs = search needs

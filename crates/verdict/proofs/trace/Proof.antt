@@ -4,54 +4,38 @@ use borrow.Author.Needs.{needs}
 use Rattle.verdict.proofs.trace.Statement.{statement}
 use Rattle.verdict.proofs.trace.Tie as tie
 use Rattle.verdict.proofs.trace.Reads as reads
-use Rattle.verdict.proofs.trace.Lts as lts
-use Rattle.refusals.proofs.number_of.Reads as number-of-reads
-use Rattle.table.proofs.tables.read_table.Reads as read-table-reads
-use Rattle.verdict.proofs.judge_part.Reads as judge-part-reads
-use Rattle.verdict.proofs.reach_part.Reads as reach-part-reads
-use Rattle.verdict.proofs.refused.Reads as refused-reads
 
--- src/lib.rt:250:13
 read-table-requires : tie.Need-read-table-requires
 read-table-requires c κs = search needs
 
--- src/lib.rt:252:8
 number-of-requires : tie.Need-number-of-requires
 number-of-requires c κs = search needs
 
--- src/lib.rt:253:9
 refused-requires : tie.Need-refused-requires
 refused-requires c κs = search needs
 
--- src/lib.rt:253:9
 returns : tie.Need-returns
 returns c =
     unread-traced (c .before .before .before .before .before .args .s .now) (c .before .before .before .read-table .result) (c .before .before .before .read-table .ensures) (λ q. c .before .if1 .taken (c .before .before .number-of .ensures ∙ q)) _ _ (c .refused .ensures)
 
--- src/lib.rt:258:9
 judge-part-requires : tie.Need-judge-part-requires
 judge-part-requires c κs =
     judgeable (was-read (c .before .before .before .before .before .before .before .before .before .before .before .before .before .before .before .before .before .before .args .s .now) (c .before .before .before .before .before .before .before .before .before .before .before .before .before .before .before .before .read-table .result) (c .before .before .before .before .before .before .before .before .before .before .before .before .before .before .before .before .read-table .ensures) (sym (c .before .before .before .before .before .before .before .before .before .before .before .before .before .before .before .number-of .ensures) ∙ c .before .before .before .before .before .before .before .before .before .before .before .before .before .before .if1 .left))
 
--- src/lib.rt:270:8
 number-of-requires-2 : tie.Need-number-of-requires-2
 number-of-requires-2 c κs = search needs
 
--- src/lib.rt:271:9
 refused-requires-2 : tie.Need-refused-requires-2
 refused-requires-2 c κs = search needs
 
--- src/lib.rt:271:9
 returns-2 : tie.Need-returns-2
 returns-2 c =
     broken-traced (was-read (c .before .before .before .before .before .before .before .before .before .before .before .before .before .before .before .before .before .before .before .before .before .before .args .s .now) (c .before .before .before .before .before .before .before .before .before .before .before .before .before .before .before .before .before .before .before .before .read-table .result) (c .before .before .before .before .before .before .before .before .before .before .before .before .before .before .before .before .before .before .before .before .read-table .ensures) (sym (c .before .before .before .before .before .before .before .before .before .before .before .before .before .before .before .before .before .before .before .number-of .ensures) ∙ c .before .before .before .before .before .before .before .before .before .before .before .before .before .before .before .before .before .before .if1 .left)) (c .before .before .before .judge-part .ensures) (λ q. c .before .if2 .taken (c .before .before .number-of2 .ensures ∙ q)) _ _ (c .refused2 .ensures)
 
--- src/lib.rt:273:9
 reach-part-requires : tie.Need-reach-part-requires
 reach-part-requires c κs =
     traceable (was-read (c .before .before .before .before .before .before .before .before .before .before .before .before .before .before .before .before .before .before .before .before .before .before .before .before .before .before .before .before .before .before .before .before .args .s .now) (c .before .before .before .before .before .before .before .before .before .before .before .before .before .before .before .before .before .before .before .before .before .before .before .before .before .before .before .before .before .before .read-table .result) (c .before .before .before .before .before .before .before .before .before .before .before .before .before .before .before .before .before .before .before .before .before .before .before .before .before .before .before .before .before .before .read-table .ensures) (sym (c .before .before .before .before .before .before .before .before .before .before .before .before .before .before .before .before .before .before .before .before .before .before .before .before .before .before .before .before .before .number-of .ensures) ∙ c .before .before .before .before .before .before .before .before .before .before .before .before .before .before .before .before .before .before .before .before .before .before .before .before .before .before .before .before .if1 .left))
 
--- src/lib.rt:247:1
 returns-3 : tie.Need-returns-3
 returns-3 c =
     fit-traced (was-read (c .before .before .before .before .before .before .before .before .before .before .before .before .before .before .before .before .before .before .before .before .before .before .before .before .before .before .before .before .before .before .before .before .before .before .before .before .args .s .now) (c .before .before .before .before .before .before .before .before .before .before .before .before .before .before .before .before .before .before .before .before .before .before .before .before .before .before .before .before .before .before .before .before .before .before .read-table .result) (c .before .before .before .before .before .before .before .before .before .before .before .before .before .before .before .before .before .before .before .before .before .before .before .before .before .before .before .before .before .before .before .before .before .before .read-table .ensures) (sym (c .before .before .before .before .before .before .before .before .before .before .before .before .before .before .before .before .before .before .before .before .before .before .before .before .before .before .before .before .before .before .before .before .before .number-of .ensures) ∙ c .before .before .before .before .before .before .before .before .before .before .before .before .before .before .before .before .before .before .before .before .before .before .before .before .before .before .before .before .before .before .before .before .if1 .left)) (c .before .before .before .before .before .before .before .before .before .before .before .before .before .before .before .before .before .judge-part .ensures) (sym (c .before .before .before .before .before .before .before .before .before .before .before .before .before .before .before .before .number-of2 .ensures) ∙ c .before .before .before .before .before .before .before .before .before .before .before .before .before .before .before .if2 .left) _ _ (c .before .before .before .reach-part .ensures)

@@ -3,7 +3,6 @@ use Rattle.verdict.proofs.Laying.{model-ends, model-ready, held-model}
 use borrow.Author.Needs.{needs}
 use Rattle.verdict.proofs.truth_part.Statement.{statement}
 use Rattle.verdict.proofs.truth_part.Tie as tie
-use Rattle.verdict.proofs.truth_part.Reads as reads
 
 mul-m : tie.Need-mul-m
 mul-m c = search needs

@@ -1,0 +1,105 @@
+-- From an accepted table that was consulted to what the calls ask: the game, its limits, and the readings of its marks.
+use mathlib.Core.Path.{_≡_, refl, sym, ap, _∙_}
+use mathlib.Core.Bool.{Bool, true, false, not, _&&_}
+use mathlib.Core.List.{List, [], _∷_, map}
+use Prim.Native.Nat.{ℕ, suc, _+_, _*_, _≤_, _<_}
+use native.Mathlib.Omega.{arith}
+use lib.Dec.{T, eqb, leb, leb→le}
+use lib.ListN.{length, getD, take}
+use borrow.Author.Tests.{ne-eqb, eq-eqb, not-true, not-false}
+use Rattle.refusals.specs.Refusal.{numberOf}
+use Rattle.refusals.specs.declared.Refusal.{Refusal}
+use Rattle.gdl.specs.Game.{Atom, Game, legalKind, terminalKind, goalKind}
+use Rattle.gdl.specs.Flags.{on, bit, blank}
+use Rattle.gdl.specs.Truth.{isFact}
+use Rattle.gdl.specs.Computed.{did, facts, model}
+use Rattle.gdl.proofs.Tests.{and-left}
+use Rattle.gdl.proofs.Walks.{zeros}
+use Rattle.rules.specs.Verdict.{Verdict, unfit, fit}
+use Rattle.rules.specs.Judged.{judge}
+use Rattle.rules.specs.Accepted.{Accepted}
+use Rattle.rules.proofs.Accepting.{accepted}
+use Rattle.session.specs.Shape.{shaped, limitsOf}
+use Rattle.session.specs.declared.Session.{Session}
+use Rattle.session.specs.declared.shape.Limits.{Limits}
+use Rattle.truth.specs.Marks.{marksOf}
+use Rattle.verdict.specs.Consulted.{refusedBy, foundIn, consulted, Fit}
+use Rattle.verdict.specs.declared.Consulted.{Consulted}
+use Rattle.referee.specs.Position.{still, over, legal, goal}
+use Rattle.referee.specs.Asked.{Asked}
+use Rattle.referee.proofs.Checking.{unfit-of-table}
+use Rattle.referee.proofs.Reading.{wide-mark, thin-mark}
+
+-- ---- no choices are blank choices, no position a blank one
+
+idle : (s m : ℕ) → did (blank 8) s m ≡ did [] s m
+idle s m = ap (λ (x : ℕ). eqb x (suc m)) (zeros 8 s)
+
+nowhere : (f : ℕ) → on (blank 512) f ≡ on [] f
+nowhere f = ap (λ (x : ℕ). eqb x 1) (zeros 512 f)
+
+facts-same : (G : Game) (pos pos′ ch ch′ : List ℕ) → ((f : ℕ) → on pos f ≡ on pos′ f) → ((s m : ℕ) → did ch s m ≡ did ch′ s m) → facts G pos ch ≡ facts G pos′ ch′
+unfolding facts
+facts-same G pos pos′ ch ch′ e h = go (G .atoms)
+  where
+    go : (l : List Atom) → map (λ a. bit (isFact (on pos) (did ch) a)) l ≡ map (λ a. bit (isFact (on pos′) (did ch′) a)) l
+    go [] = refl
+    go (a ∷ l) = rw (e (a .first), h (a .first) (a .second), go l)
+
+pub still-is : (G : Game) (pos : List ℕ) → model G pos (blank 8) ≡ still G pos
+unfolding still model
+still-is G pos = rw (facts-same G pos pos (blank 8) [] (λ f. refl) idle)
+
+pub empty-is : (G : Game) → model G (blank 512) (blank 8) ≡ still G []
+unfolding still model
+empty-is G = rw (facts-same G (blank 512) [] (blank 8) [] nowhere idle)
+
+-- ---- the verdict of a table that was consulted
+
+module _ (s : List ℕ) (c : Consulted) (pos ch : List ℕ) (e : c ≡ consulted (judge s) pos ch) where
+  pub record Accepting : Type 0 where
+    pub game : Game
+    pub judged : judge s ≡ fit game
+    pub is : c ≡ foundIn game (model game pos ch)
+    pub ok : Accepted game
+
+  pub accepting : numberOf (c .refusal) ≡ 0 → Accepting
+  accepting z = go (judge s) refl
+    where
+      go : (v : Verdict) → judge s ≡ v → Accepting
+      go (unfit r) q =
+          let f : c .refusal ≡ r = ap (λ (x : Consulted). x .refusal) (rw q at e) in
+          let some : 1 ≤ numberOf r = leb→le 1 (numberOf r) (and-left (leb 1 (numberOf r)) (leb (numberOf r) 13) (unfit-of-table s r q)) in
+          absurd (omega (arith, ap numberOf f))
+      go (fit G) q = record { game = G; judged = q; is = rw q at e; ok = accepted s G q }
+
+  pub refusing : (numberOf (c .refusal) ≡ 0 → ⊥) → judge s ≡ unfit (c .refusal)
+  refusing n = go (judge s) refl
+    where
+      go : (v : Verdict) → judge s ≡ v → judge s ≡ unfit (c .refusal)
+      go (unfit r) q = rw q (ap unfit (sym (ap (λ (x : Consulted). x .refusal) (rw q at e))))
+      go (fit G) q = absurd (n (ap (λ (x : Consulted). numberOf (x .refusal)) (rw q at e)))
+
+  pub asked-of : numberOf (c .refusal) ≡ 0 → Asked c pos ch
+  asked-of z = let a = accepting z in record { game = a .game; accepted = a .ok; is = a .is }
+
+pub fit-of : {c : Consulted} {pos ch : List ℕ} → Asked c pos ch → Fit c
+fit-of {c} {pos} {ch} a = record { game = a .game; flags = model (a .game) pos ch; is = a .is; few = a .accepted .limits .atoms }
+
+-- ---- what is read
+
+module _ (G : Game) (ok : Accepted G) (c : Consulted) (pos : List ℕ) (e : c ≡ foundIn G (model G pos (blank 8))) where
+  pub limits-are : (l : Limits) → l ≡ record { seats = c .header .players .seats; fluents = c .header .sizes .fluents; moves = c .header .sizes .moves; percepts = c .header .sizes .percepts } → l ≡ limitsOf G
+  limits-are l h = h ∙ ap (λ (x : Consulted). record { seats = x .header .players .seats; fluents = x .header .sizes .fluents; moves = x .header .sizes .moves; percepts = x .header .sizes .percepts }) e
+
+  pub over-mark : (marks : List ℕ) → marks ≡ marksOf 8 1 (G .atoms) (on (model G pos (blank 8))) → eqb (getD marks 0 0) 1 ≡ over G pos
+  unfolding over
+  over-mark marks h = thin-mark G (ok .limits) (on (model G pos (blank 8))) 8 (omega arith) marks h 0 (omega arith) ∙ rw (still-is G pos)
+
+  pub legal-mark : (marks : List ℕ) → marks ≡ marksOf 5 256 (G .atoms) (on (model G pos (blank 8))) → (s m : ℕ) → m < 256 → s < 8 → eqb (getD marks (s * 256 + m) 0) 1 ≡ legal G pos s m
+  unfolding legal
+  legal-mark marks h s m small few = wide-mark G (ok .limits) (on (model G pos (blank 8))) 5 (ok .limits .moves) marks h s m small (omega arith) ∙ rw (still-is G pos)
+
+  pub goal-mark : (marks : List ℕ) → marks ≡ marksOf 9 256 (G .atoms) (on (model G pos (blank 8))) → (s m : ℕ) → m < 256 → s < 8 → eqb (getD marks (s * 256 + m) 0) 1 ≡ goal G pos s m
+  unfolding goal
+  goal-mark marks h s m small few = wide-mark G (ok .limits) (on (model G pos (blank 8))) 9 (omega arith) marks h s m small (omega arith) ∙ rw (still-is G pos)

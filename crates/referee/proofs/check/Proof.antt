@@ -1,0 +1,14 @@
+use Rattle.referee.proofs.Opening.{check-kept}
+use borrow.Author.Needs.{needs}
+use Rattle.referee.proofs.check.Statement.{statement}
+use Rattle.referee.proofs.check.Tie as tie
+use Rattle.referee.proofs.check.Reads as reads
+
+examine-requires : tie.Need-examine-requires
+examine-requires c κs = search needs
+
+returns : tie.Need-returns
+returns c = check-kept (c .before .before .args .table .now) (c .examine .result) (c .examine .ensures)
+
+pub check-spec : {M : Type 1} → statement M
+check-spec = tie.close (tie.spec examine-requires returns)

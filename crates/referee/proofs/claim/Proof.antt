@@ -1,0 +1,14 @@
+use Rattle.referee.proofs.Opening.{claim-kept}
+use borrow.Author.Needs.{needs}
+use Rattle.referee.proofs.claim.Statement.{statement}
+use Rattle.referee.proofs.claim.Tie as tie
+use Rattle.referee.proofs.claim.Reads as reads
+
+examine-requires : tie.Need-examine-requires
+examine-requires c κs = search needs
+
+returns : tie.Need-returns
+returns c = claim-kept _ (c .examine .result) (c .examine .ensures)
+
+pub claim-spec : {M : Type 1} → statement M
+claim-spec = tie.close (tie.spec examine-requires returns)

@@ -1,0 +1,14 @@
+-- What the calls' inner functions ask for: an accepted table, consulted on a position and choices.
+use mathlib.Core.Path.{_≡_}
+use mathlib.Core.List.{List}
+use Prim.Native.Nat.{ℕ}
+use Rattle.gdl.specs.Game.{Game}
+use Rattle.gdl.specs.Computed.{model}
+use Rattle.rules.specs.Accepted.{Accepted}
+use Rattle.verdict.specs.Consulted.{foundIn}
+use Rattle.verdict.specs.declared.Consulted.{Consulted}
+
+pub record Asked (found : Consulted) (pos ch : List ℕ) : Type 0 where
+  pub game : Game
+  pub accepted : Accepted game
+  pub is : found ≡ foundIn game (model game pos ch)

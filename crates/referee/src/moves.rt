@@ -1,0 +1,79 @@
+// Offer, on an accepted table.
+use crate::Moved;
+use crate::positions::limits_of;
+use gdl::Move;
+use gdl::Seat;
+use refusals::Refusal;
+use session::Session;
+use session::shape::shaped;
+use verdict::Consulted;
+use verdict::marks_in;
+ghost use mathlib.Core.Path.{_≡_};
+ghost use Rattle.gdl.specs.Game.{Game};
+ghost use Rattle.gdl.specs.Flags.{blank};
+ghost use Rattle.gdl.specs.Computed.{model};
+ghost use Rattle.rules.specs.Accepted.{Accepted};
+ghost use Rattle.rules.specs.Verdict.{fit};
+ghost use Rattle.verdict.specs.Consulted.{foundIn};
+ghost use Rattle.referee.specs.Calls.{offer};
+ghost use Rattle.referee.specs.Asked.{Asked};
+
+// "offer 19, 15, 16, 17, 18", after 21.
+pub fn offer_fit(found: Consulted, session: Session, seat: Seat, choice: Move) -> Moved
+    requires { ⌜ Asked found (session .position) (blank 8) ⌝ }
+    ensures { λ r. ⌜ ((G : Game) → Accepted G → found ≡ foundIn G (model G (session .position) (blank 8)) → r ≡ offer (fit G) session (seat .0) (choice .0)) ⌝ }
+{
+    let limits = limits_of(found.header);
+    if !shaped(session, limits) {
+        return Moved {
+            refusal: Refusal::BadShape,
+            session,
+        };
+    }
+    let ends = marks_in(found, 8, 1);
+    if ends[0] == 1 {
+        return Moved {
+            refusal: Refusal::GameOver,
+            session,
+        };
+    }
+    if limits.seats <= seat.0 {
+        return Moved {
+            refusal: Refusal::NoSuchSeat,
+            session,
+        };
+    }
+    if limits.moves <= choice.0 {
+        return Moved {
+            refusal: Refusal::NoSuchMove,
+            session,
+        };
+    }
+    let at = seat.0 as usize;
+    let mut choices = session.choices;
+    if choices[at] != 0 {
+        return Moved {
+            refusal: Refusal::AlreadyChosen,
+            session,
+        };
+    }
+    let legal = marks_in(found, 5, 256);
+    if legal[at * 256 + choice.0 as usize] != 1 {
+        return Moved {
+            refusal: Refusal::NotLegal(0),
+            session,
+        };
+    }
+    choices[at] = choice.0 + 1;
+    let position = session.position;
+    let percepts = session.percepts;
+    Moved {
+        refusal: Refusal::Success,
+        session: Session {
+            position,
+            choices,
+            percepts,
+            round: session.round,
+        },
+    }
+}

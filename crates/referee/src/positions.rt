@@ -1,0 +1,49 @@
+// Limits, blank rooms, and positions from marks.
+use session::shape::Limits;
+use table::header::Header;
+ghost use mathlib.Core.Path.{_≡_};
+ghost use lib.ListN.{take};
+ghost use Rattle.gdl.specs.Flags.{blank};
+
+pub fn no_fluents() -> [u8; 512]
+    ensures { λ r. ⌜ r ≡ blank 512 ⌝ }
+{
+    [0; 512]
+}
+
+pub fn no_choices() -> [u16; 8]
+    ensures { λ r. ⌜ r ≡ blank 8 ⌝ }
+{
+    [0; 8]
+}
+
+pub fn no_percepts() -> [u8; 2048]
+    ensures { λ r. ⌜ r ≡ blank 2048 ⌝ }
+{
+    [0; 2048]
+}
+
+// How much of each thing a table has.
+pub fn limits_of(header: Header) -> Limits
+    ensures { λ r. ⌜ r ≡ record { seats = header .players .seats; fluents = header .sizes .fluents; moves = header .sizes .moves; percepts = header .sizes .percepts } ⌝ }
+{
+    Limits {
+        seats: header.players.seats,
+        fluents: header.sizes.fluents,
+        moves: header.sizes.moves,
+        percepts: header.sizes.percepts,
+    }
+}
+
+// The marks of the fluents: a position.
+pub fn first_marks(marks: [u8; 2048]) -> [u8; 512]
+    ensures { λ r. ⌜ r ≡ take 512 marks ⌝ }
+{
+    let mut position = no_fluents();
+    let mut i: usize = 0;
+    while i < 512 {
+        position[i] = marks[i];
+        i += 1;
+    }
+    position
+}
