@@ -18,3 +18,4 @@ pub mod Reading
 pub mod Asking
 pub mod Offering
 pub mod Opening
+pub mod Looking

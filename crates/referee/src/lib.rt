@@ -2,6 +2,7 @@
 // The check answers the refusal alone, and the model call the refusal and the lent room.
 mod positions; // limits, blank rooms, positions from marks
 mod moves; // offer, on an accepted table
+mod looks; // hidden, on an accepted table
 
 use gdl::Move;
 use gdl::Seat;
@@ -12,7 +13,7 @@ use session::bytes::blank_session;
 ghost use mathlib.Core.Path.{_≡_};
 ghost use Rattle.rules.specs.Judged.{judge};
 ghost use Rattle.referee.specs.Calls.{claim, openGame, offer};
-ghost use Rattle.referee.specs.Promises.{CheckPromise};
+ghost use Rattle.referee.specs.Promises.{CheckPromise, HiddenPromise};
 
 pub struct Claimed {
     pub refusal: Refusal,
@@ -92,4 +93,16 @@ pub fn offer(table: &[u8], session: Session, seat: Seat, choice: Move) -> Moved
         return Moved { refusal, session };
     }
     moves::offer_fit(found, session, seat, choice)
+}
+
+// "A move of any seat is hidden from the first seat (the call answers 1, else 0)": the asking seat, the moving seat, its move.
+pub fn hidden(table: &[u8], asking: Seat, moving: Seat, choice: Move) -> Looked
+    ensures { λ r. ⌜ HiddenPromise (judge (now (table .entry))) (asking .0) (moving .0) (choice .0) r ⌝ }
+{
+    let found = verdict::trace(table, asking.0);
+    let refusal = found.refusal;
+    if number_of(refusal) != 0 {
+        return Looked { refusal, hidden: 0 };
+    }
+    looks::hidden_fit(found, asking, moving, choice)
 }

@@ -1,0 +1,116 @@
+-- The tests of hidden on an accepted table that was traced, each as the outcome that the code found.
+use mathlib.Core.Path.{_≡_, refl, sym, ap, subst, _∙_}
+use mathlib.Core.Bool.{Bool, true, false, not}
+use mathlib.Core.List.{List, []}
+use Prim.Native.Nat.{ℕ, _+_, _*_, _≤_, _<_}
+use native.Mathlib.Omega.{arith}
+use lib.Dec.{eqb, leb, leb→le}
+use lib.ListN.{length, getD}
+use borrow.Author.Tests.{le-leb, lt-leb, ne-eqb, eq-eqb}
+use Rattle.refusals.specs.Refusal.{numberOf}
+use Rattle.refusals.specs.declared.Refusal.{Refusal}
+use Rattle.refusals.specs.declared.Refusal.the-variants.{Success}
+use Rattle.gdl.specs.Game.{Game}
+use Rattle.gdl.specs.Flags.{on, bit}
+use Rattle.gdl.specs.Computed.{reachOf, hidden}
+use Rattle.gdl.proofs.Tests.{and-left}
+use Rattle.rules.specs.Accepted.{Accepted}
+use Rattle.rules.specs.Verdict.{Verdict, unfit, fit}
+use Rattle.rules.specs.Judged.{judge}
+use Rattle.rules.proofs.Accepting.{accepted}
+use Rattle.session.specs.declared.shape.Limits.{Limits}
+use Rattle.verdict.specs.Consulted.{foundIn, traced, Fit}
+use Rattle.verdict.specs.declared.Consulted.{Consulted}
+use Rattle.referee.specs.declared.Looked.{Looked}
+use Rattle.referee.specs.Asked.{Traced}
+use Rattle.referee.specs.Calls.{hiddenFrom}
+use Rattle.referee.specs.Promises.{HiddenPromise}
+use Rattle.referee.proofs.Checking.{unfit-of-table}
+use Rattle.referee.proofs.Meeting.{hidden-meets}
+use Rattle.referee.proofs.Returns.{hidden-unfit, hidden-done}
+use Rattle.referee.proofs.Reading.{wide-mark}
+use Rattle.referee.proofs.Offering.{Headed, MarksIn}
+
+module _ (c : Consulted) (l : Limits) (h : Headed c l) (G : Game) (ok : Accepted G) (X : List ℕ) (e : c ≡ foundIn G X) where
+  seats-here : l .seats ≡ G .seats
+  seats-here = ap (λ (x : Limits). x .seats) h ∙ ap (λ (x : Consulted). x .header .players .seats) e
+
+  moves-here : l .moves ≡ G .moves
+  moves-here = ap (λ (x : Limits). x .moves) h ∙ ap (λ (x : Consulted). x .header .sizes .moves) e
+
+  module _ (s : ℕ) where
+    pub seat-out : l .seats ≤ s → leb (G .seats) s ≡ true
+    seat-out t = le-leb (G .seats) s (omega (arith, seats-here))
+
+    pub seat-in : s < l .seats → leb (G .seats) s ≡ false
+    seat-in t = lt-leb (G .seats) s (omega (arith, seats-here))
+
+    pub move-out : l .moves ≤ s → leb (G .moves) s ≡ true
+    move-out t = le-leb (G .moves) s (omega (arith, moves-here))
+
+    pub move-in : s < l .moves → leb (G .moves) s ≡ false
+    move-in t = lt-leb (G .moves) s (omega (arith, moves-here))
+
+    pub seat-small : s < l .seats → s < 8
+    seat-small t = omega (arith, seats-here, ok .limits .seats)
+
+    pub move-small : s < l .moves → s < 256
+    move-small t = omega (arith, moves-here, ok .limits .moves)
+
+module _ (c : Consulted) (l : Limits) (h : Headed c l) (G : Game) (ok : Accepted G) (z : ℕ) (e : c ≡ foundIn G (reachOf G z)) (s m : ℕ) (hs : s < l .seats) (hm : m < l .moves)
+    (marks : List ℕ) (em : MarksIn c 4 256 marks) where
+  seen : hidden G z s m ≡ not (eqb (getD marks (s * 256 + m) 0) 1)
+  unfolding hidden
+  seen = sym (ap not (wide-mark G (ok .limits) (on (reachOf G z)) 4 (ok .limits .moves) marks (em G (reachOf G z) e (ok .limits .atoms)) s m (move-small c l h G ok (reachOf G z) e m hm)
+      (omega (arith, seat-small c l h G ok (reachOf G z) e s hs, move-small c l h G ok (reachOf G z) e m hm))))
+
+  module _ (a : leb (G .seats) z ≡ false) where
+    answers : (x : ℕ) → x ≡ bit (hidden G z s m) → record { refusal = Success; hidden = x } ≡ hiddenFrom (fit G) z s m
+    answers x q = rw q (hidden-done G z s m a (seat-in c l h G ok (reachOf G z) e s hs) (move-in c l h G ok (reachOf G z) e m hm))
+
+    pub is-seen : getD marks (s * 256 + m) 0 ≡ 1 → record { refusal = Success; hidden = 0 } ≡ hiddenFrom (fit G) z s m
+    is-seen t = answers 0 (sym (ap bit (seen ∙ ap not (eq-eqb (getD marks (s * 256 + m) 0) 1 t))))
+
+    pub is-hidden : (getD marks (s * 256 + m) 0 ≡ 1 → ⊥) → record { refusal = Success; hidden = 1 } ≡ hiddenFrom (fit G) z s m
+    is-hidden n = answers 1 (sym (ap bit (seen ∙ ap not (ne-eqb (getD marks (s * 256 + m) 0) 1 n))))
+
+pub traced-fit : {c : Consulted} {z : ℕ} → Traced c z → Fit c
+traced-fit {c} {z} a = record { game = a .game; flags = reachOf (a .game) z; is = a .is; few = a .accepted .limits .atoms }
+
+-- ---- the whole call
+
+module _ (t : List ℕ) (c : Consulted) (z : ℕ) (e : c ≡ traced (judge t) z) where
+  pub record Tracing : Type 0 where
+    pub game : Game
+    pub judged : judge t ≡ fit game
+    pub is : c ≡ foundIn game (reachOf game z)
+    pub ok : Accepted game
+
+  pub tracing : numberOf (c .refusal) ≡ 0 → Tracing
+  tracing n = go (judge t) refl
+    where
+      go : (v : Verdict) → judge t ≡ v → Tracing
+      go (unfit r) q =
+          let f : c .refusal ≡ r = ap (λ (x : Consulted). x .refusal) (rw q at e) in
+          let some : 1 ≤ numberOf r = leb→le 1 (numberOf r) (and-left (leb 1 (numberOf r)) (leb (numberOf r) 13) (unfit-of-table t r q)) in
+          absurd (omega (arith, ap numberOf f))
+      go (fit G) q = record { game = G; judged = q; is = rw q at e; ok = accepted t G q }
+
+  pub traced-of : numberOf (c .refusal) ≡ 0 → Traced c z
+  traced-of n = let a = tracing n in record { game = a .game; accepted = a .ok; is = a .is }
+
+  promise : (s m : ℕ) (r : Looked) → r ≡ hiddenFrom (judge t) z s m → HiddenPromise (judge t) z s m r
+  promise s m r q = subst (HiddenPromise (judge t) z s m) (sym q) (hidden-meets t z s m)
+
+  pub hidden-refused : (numberOf (c .refusal) ≡ 0 → ⊥) → (s m : ℕ) → HiddenPromise (judge t) z s m (record { refusal = c .refusal; hidden = 0 })
+  hidden-refused n s m = promise s m (record { refusal = c .refusal; hidden = 0 }) (go (judge t) refl)
+    where
+      go : (v : Verdict) → judge t ≡ v → record { refusal = c .refusal; hidden = 0 } ≡ hiddenFrom (judge t) z s m
+      go (unfit r) q = rw q (ap (λ (x : Consulted). record { refusal = x .refusal; hidden = 0 }) (rw q at e) ∙ hidden-unfit blankGame z s m r)
+        where
+          blankGame : Game
+          blankGame = record { claim = 0; seats = 0; chance = 0; fluents = 0; moves = 0; percepts = 0; atoms = []; clauses = [] }
+      go (fit G) q = absurd (n (ap (λ (x : Consulted). numberOf (x .refusal)) (rw q at e)))
+
+  pub hidden-accepted : numberOf (c .refusal) ≡ 0 → (s m : ℕ) (r : Looked) → ((G : Game) → Accepted G → c ≡ foundIn G (reachOf G z) → r ≡ hiddenFrom (fit G) z s m) → HiddenPromise (judge t) z s m r
+  hidden-accepted n s m r f = let a = tracing n in promise s m r (rw (a .judged) (f (a .game) (a .ok) (a .is)))
