@@ -19,3 +19,4 @@ pub mod Asking
 pub mod Offering
 pub mod Opening
 pub mod Looking
+pub mod Telling

@@ -3,6 +3,7 @@
 mod positions; // limits, blank rooms, positions from marks
 mod moves; // offer, on an accepted table
 mod looks; // hidden, on an accepted table
+mod tells; // the model call, on an accepted table
 
 use gdl::Move;
 use gdl::Seat;
@@ -13,7 +14,7 @@ use session::bytes::blank_session;
 ghost use mathlib.Core.Path.{_≡_};
 ghost use Rattle.rules.specs.Judged.{judge};
 ghost use Rattle.referee.specs.Calls.{claim, openGame, offer};
-ghost use Rattle.referee.specs.Promises.{CheckPromise, HiddenPromise};
+ghost use Rattle.referee.specs.Promises.{CheckPromise, HiddenPromise, ModelPromise};
 
 pub struct Claimed {
     pub refusal: Refusal,
@@ -105,4 +106,16 @@ pub fn hidden(table: &[u8], asking: Seat, moving: Seat, choice: Move) -> Looked
         return Looked { refusal, hidden: 0 };
     }
     looks::hidden_fit(found, asking, moving, choice)
+}
+
+// The model call: "one flag for each atom, 0 or 1, into the first A places of lent room; later places stay".
+pub fn model(table: &[u8], position: [u8; 512], choices: [u16; 8], room: &mut [u8]) -> Refusal
+    ensures { λ r. ⌜ ModelPromise (judge (now (table .entry))) position choices (now (room .entry)) (r, now (room .exit)) ⌝ }
+{
+    let found = verdict::consult(table, position, choices);
+    let refusal = found.refusal;
+    if number_of(refusal) != 0 {
+        return refusal;
+    }
+    tells::model_fit(found, position, choices, room)
 }

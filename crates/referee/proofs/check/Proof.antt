@@ -2,7 +2,6 @@ use Rattle.referee.proofs.Opening.{check-kept}
 use borrow.Author.Needs.{needs}
 use Rattle.referee.proofs.check.Statement.{statement}
 use Rattle.referee.proofs.check.Tie as tie
-use Rattle.referee.proofs.check.Reads as reads
 
 examine-requires : tie.Need-examine-requires
 examine-requires c κs = search needs

@@ -2,7 +2,6 @@ use Rattle.referee.proofs.Opening.{claim-kept}
 use borrow.Author.Needs.{needs}
 use Rattle.referee.proofs.claim.Statement.{statement}
 use Rattle.referee.proofs.claim.Tie as tie
-use Rattle.referee.proofs.claim.Reads as reads
 
 examine-requires : tie.Need-examine-requires
 examine-requires c κs = search needs

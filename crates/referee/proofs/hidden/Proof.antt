@@ -4,30 +4,21 @@ use borrow.Author.Needs.{needs}
 use Rattle.referee.proofs.hidden.Statement.{statement}
 use Rattle.referee.proofs.hidden.Tie as tie
 use Rattle.referee.proofs.hidden.Reads as reads
-use Rattle.referee.proofs.hidden.Lts as lts
-use Rattle.referee.proofs.looks.hidden_fit.Reads as hidden-fit-reads
-use Rattle.refusals.proofs.number_of.Reads as number-of-reads
-use Rattle.verdict.proofs.trace.Reads as trace-reads
 
--- src/lib.rt:102:9
 trace-requires : tie.Need-trace-requires
 trace-requires c κs = search needs
 
--- src/lib.rt:104:8
 number-of-requires : tie.Need-number-of-requires
 number-of-requires c κs = search needs
 
--- src/lib.rt:105:9
 returns : tie.Need-returns
 returns c =
     hidden-refused (c .before .before .before .before .args .table .now) (c .before .before .trace .result) (c .before .before .before .before .args .asking .0) (c .before .before .trace .ensures) (λ q. c .if1 .taken (c .before .number-of .ensures ∙ q)) (c .before .before .before .before .args .moving .0) (c .before .before .before .before .args .choice .0)
 
--- src/lib.rt:107:5
 hidden-fit-requires : tie.Need-hidden-fit-requires
 hidden-fit-requires c κs =
     traced-of (c .before .before .before .before .args .table .now) (c .before .before .trace .result) (c .before .before .before .before .args .asking .0) (c .before .before .trace .ensures) (sym (c .before .number-of .ensures) ∙ c .if1 .left)
 
--- src/lib.rt:99:1
 returns-2 : tie.Need-returns-2
 returns-2 c =
     hidden-accepted (c .before .before .before .before .before .args .table .now) (c .before .before .before .trace .result) (c .before .before .before .before .before .args .asking .0) (c .before .before .before .trace .ensures) (sym (c .before .before .number-of .ensures) ∙ c .before .if1 .left) (c .before .before .before .before .before .args .moving .0) (c .before .before .before .before .before .args .choice .0) (c .hidden-fit .result) (c .hidden-fit .ensures)

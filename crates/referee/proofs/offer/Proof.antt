@@ -7,7 +7,6 @@ use Rattle.referee.proofs.Offering.{offer-refused, offer-accepted}
 use borrow.Author.Needs.{needs}
 use Rattle.referee.proofs.offer.Statement.{statement}
 use Rattle.referee.proofs.offer.Tie as tie
-use Rattle.referee.proofs.offer.Reads as reads
 
 no-choices-requires : tie.Need-no-choices-requires
 no-choices-requires c κs = search needs

@@ -4,7 +4,6 @@ use Rattle.referee.proofs.Opening.{open-refused, open-accepted}
 use borrow.Author.Needs.{needs}
 use Rattle.referee.proofs.open_game.Statement.{statement}
 use Rattle.referee.proofs.open_game.Tie as tie
-use Rattle.referee.proofs.open_game.Reads as reads
 
 no-fluents-requires : tie.Need-no-fluents-requires
 no-fluents-requires c κs = search needs

@@ -6,61 +6,46 @@ use borrow.Author.Needs.{needs}
 use Rattle.referee.proofs.looks.hidden_fit.Statement.{statement}
 use Rattle.referee.proofs.looks.hidden_fit.Tie as tie
 use Rattle.referee.proofs.looks.hidden_fit.Reads as reads
-use Rattle.referee.proofs.looks.hidden_fit.Lts as lts
-use Rattle.referee.proofs.positions.limits_of.Reads as limits-of-reads
-use Rattle.verdict.proofs.marks_in.Reads as marks-in-reads
 
--- src/looks.rt:23:9
 limits-of-requires : tie.Need-limits-of-requires
 limits-of-requires c κs = search needs
 
--- src/looks.rt:25:9
 returns : tie.Need-returns
 returns c =
     λ G ok e. hidden-no-asking G (c .before .before .before .before .args .asking .0) (c .before .before .before .before .args .moving .0) (c .before .before .before .before .args .choice .0) (seat-out (c .before .before .before .before .args .found) (c .before .before .before .limits-of .result) (c .before .before .before .limits-of .ensures) G ok (reachOf G (c .before .before .before .before .args .asking .0)) e (c .before .before .before .before .args .asking .0) (c .if1 .taken))
 
--- src/looks.rt:31:9
 returns-2 : tie.Need-returns-2
 returns-2 c =
     λ G ok e. hidden-no-moving G (c .before .before .before .before .before .before .before .args .asking .0) (c .before .before .before .before .before .before .before .args .moving .0) (c .before .before .before .before .before .before .before .args .choice .0) (seat-in (c .before .before .before .before .before .before .before .args .found) (c .before .before .before .before .before .before .limits-of .result) (c .before .before .before .before .before .before .limits-of .ensures) G ok (reachOf G (c .before .before .before .before .before .before .before .args .asking .0)) e (c .before .before .before .before .before .before .before .args .asking .0) (c .before .before .before .if1 .left)) (seat-out (c .before .before .before .before .before .before .before .args .found) (c .before .before .before .before .before .before .limits-of .result) (c .before .before .before .before .before .before .limits-of .ensures) G ok (reachOf G (c .before .before .before .before .before .before .before .args .asking .0)) e (c .before .before .before .before .before .before .before .args .moving .0) (c .if2 .taken))
 
--- src/looks.rt:37:9
 returns-3 : tie.Need-returns-3
 returns-3 c =
     λ G ok e. hidden-no-move G (c .before .before .before .before .before .before .before .before .before .before .args .asking .0) (c .before .before .before .before .before .before .before .before .before .before .args .moving .0) (c .before .before .before .before .before .before .before .before .before .before .args .choice .0) (seat-in (c .before .before .before .before .before .before .before .before .before .before .args .found) (c .before .before .before .before .before .before .before .before .before .limits-of .result) (c .before .before .before .before .before .before .before .before .before .limits-of .ensures) G ok (reachOf G (c .before .before .before .before .before .before .before .before .before .before .args .asking .0)) e (c .before .before .before .before .before .before .before .before .before .before .args .asking .0) (c .before .before .before .before .before .before .if1 .left)) (seat-in (c .before .before .before .before .before .before .before .before .before .before .args .found) (c .before .before .before .before .before .before .before .before .before .limits-of .result) (c .before .before .before .before .before .before .before .before .before .limits-of .ensures) G ok (reachOf G (c .before .before .before .before .before .before .before .before .before .before .args .asking .0)) e (c .before .before .before .before .before .before .before .before .before .before .args .moving .0) (c .before .before .before .if2 .left)) (move-out (c .before .before .before .before .before .before .before .before .before .before .args .found) (c .before .before .before .before .before .before .before .before .before .limits-of .result) (c .before .before .before .before .before .before .before .before .before .limits-of .ensures) G ok (reachOf G (c .before .before .before .before .before .before .before .before .before .before .args .asking .0)) e (c .before .before .before .before .before .before .before .before .before .before .args .choice .0) (c .if3 .taken))
 
--- src/looks.rt:42:19
 marks-in-requires : tie.Need-marks-in-requires
 marks-in-requires c κs =
     (traced-fit (c .before .before .before .before .before .before .before .before .before .before .pre), search needs)
 
--- src/looks.rt:43:14
 cast-at : tie.Need-cast-at
 cast-at c = search needs
 
--- src/looks.rt:44:16
 mul-if4 : tie.Need-mul-if4
 mul-if4 c = search needs
 
--- src/looks.rt:44:27
 cast-if4 : tie.Need-cast-if4
 cast-if4 c = search needs
 
--- src/looks.rt:44:16
 add-if4 : tie.Need-add-if4
 add-if4 c = search needs
 
--- src/looks.rt:44:8
 array-read-if4 : tie.Need-array-read-if4
 array-read-if4 c =
     omega (arith, seat-small (c .before .before .before .before .before .before .before .before .before .before .before .before .before .args .found) (c .before .before .before .before .before .before .before .before .before .before .before .before .limits-of .result) (c .before .before .before .before .before .before .before .before .before .before .before .before .limits-of .ensures) (c .before .before .before .before .before .before .before .before .before .before .before .before .before .pre .game) (c .before .before .before .before .before .before .before .before .before .before .before .before .before .pre .accepted) (reachOf (c .before .before .before .before .before .before .before .before .before .before .before .before .before .pre .game) (c .before .before .before .before .before .before .before .before .before .before .before .before .before .args .asking .0)) (c .before .before .before .before .before .before .before .before .before .before .before .before .before .pre .is) (c .before .before .before .before .before .before .before .before .before .before .before .before .before .args .moving .0) (c .before .before .before .before .before .before .if2 .left), move-small (c .before .before .before .before .before .before .before .before .before .before .before .before .before .args .found) (c .before .before .before .before .before .before .before .before .before .before .before .before .limits-of .result) (c .before .before .before .before .before .before .before .before .before .before .before .before .limits-of .ensures) (c .before .before .before .before .before .before .before .before .before .before .before .before .before .pre .game) (c .before .before .before .before .before .before .before .before .before .before .before .before .before .pre .accepted) (reachOf (c .before .before .before .before .before .before .before .before .before .before .before .before .before .pre .game) (c .before .before .before .before .before .before .before .before .before .before .before .before .before .args .asking .0)) (c .before .before .before .before .before .before .before .before .before .before .before .before .before .pre .is) (c .before .before .before .before .before .before .before .before .before .before .before .before .before .args .choice .0) (c .before .before .before .if3 .left))
 
--- src/looks.rt:45:9
 returns-4 : tie.Need-returns-4
 returns-4 c =
     λ G ok e. is-seen (c .before .before .before .before .before .before .before .before .before .before .before .before .before .before .args .found) (c .before .before .before .before .before .before .before .before .before .before .before .before .before .limits-of .result) (c .before .before .before .before .before .before .before .before .before .before .before .before .before .limits-of .ensures) G ok (c .before .before .before .before .before .before .before .before .before .before .before .before .before .before .args .asking .0) e (c .before .before .before .before .before .before .before .before .before .before .before .before .before .before .args .moving .0) (c .before .before .before .before .before .before .before .before .before .before .before .before .before .before .args .choice .0) (c .before .before .before .before .before .before .before .if2 .left) (c .before .before .before .before .if3 .left) (c .before .before .before .marks-in .result) (c .before .before .before .marks-in .ensures) (seat-in (c .before .before .before .before .before .before .before .before .before .before .before .before .before .before .args .found) (c .before .before .before .before .before .before .before .before .before .before .before .before .before .limits-of .result) (c .before .before .before .before .before .before .before .before .before .before .before .before .before .limits-of .ensures) G ok (reachOf G (c .before .before .before .before .before .before .before .before .before .before .before .before .before .before .args .asking .0)) e (c .before .before .before .before .before .before .before .before .before .before .before .before .before .before .args .asking .0) (c .before .before .before .before .before .before .before .before .before .before .if1 .left)) (c .if4 .taken)
 
--- src/looks.rt:19:1
 returns-5 : tie.Need-returns-5
 returns-5 c =
     λ G ok e. is-hidden (c .before .before .before .before .before .before .before .before .before .before .before .before .before .before .args .found) (c .before .before .before .before .before .before .before .before .before .before .before .before .before .limits-of .result) (c .before .before .before .before .before .before .before .before .before .before .before .before .before .limits-of .ensures) G ok (c .before .before .before .before .before .before .before .before .before .before .before .before .before .before .args .asking .0) e (c .before .before .before .before .before .before .before .before .before .before .before .before .before .before .args .moving .0) (c .before .before .before .before .before .before .before .before .before .before .before .before .before .before .args .choice .0) (c .before .before .before .before .before .before .before .if2 .left) (c .before .before .before .before .if3 .left) (c .before .before .before .marks-in .result) (c .before .before .before .marks-in .ensures) (seat-in (c .before .before .before .before .before .before .before .before .before .before .before .before .before .before .args .found) (c .before .before .before .before .before .before .before .before .before .before .before .before .before .limits-of .result) (c .before .before .before .before .before .before .before .before .before .before .before .before .before .limits-of .ensures) G ok (reachOf G (c .before .before .before .before .before .before .before .before .before .before .before .before .before .before .args .asking .0)) e (c .before .before .before .before .before .before .before .before .before .before .before .before .before .before .args .asking .0) (c .before .before .before .before .before .before .before .before .before .before .if1 .left)) (c .if4 .left)

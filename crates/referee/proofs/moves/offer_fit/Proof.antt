@@ -5,7 +5,6 @@ use Rattle.referee.proofs.Returns.{offer-bad-shape, offer-over, offer-n
 use borrow.Author.Needs.{needs}
 use Rattle.referee.proofs.moves.offer_fit.Statement.{statement}
 use Rattle.referee.proofs.moves.offer_fit.Tie as tie
-use Rattle.referee.proofs.moves.offer_fit.Reads as reads
 
 limits-of-requires : tie.Need-limits-of-requires
 limits-of-requires c κs = search needs

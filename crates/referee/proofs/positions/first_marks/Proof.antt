@@ -3,7 +3,6 @@ use Prim.Native.Nat.{_-_}
 use borrow.Author.Needs.{needs}
 use Rattle.referee.proofs.positions.first_marks.Statement.{statement}
 use Rattle.referee.proofs.positions.first_marks.Tie as tie
-use Rattle.referee.proofs.positions.first_marks.Reads as reads
 
 abbrev Inv-loop : tie.InvT-loop
 Inv-loop marks position₀ i₀ position i = Copying marks position i

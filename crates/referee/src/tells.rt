@@ -1,0 +1,55 @@
+// The model call, on an accepted table.
+use crate::positions::limits_of;
+use refusals::Refusal;
+use session::shape::choices_fit;
+use session::shape::position_fits;
+use verdict::Consulted;
+ghost use mathlib.Core.Path.{_≡_};
+ghost use mathlib.Core.List.{_++_};
+ghost use Prim.Native.Nat.{_≤_};
+ghost use lib.ListN.{length, take, drop};
+ghost use Rattle.gdl.specs.Game.{Game};
+ghost use Rattle.gdl.specs.Computed.{model};
+ghost use Rattle.rules.specs.Accepted.{Accepted};
+ghost use Rattle.rules.specs.Verdict.{fit};
+ghost use Rattle.verdict.specs.Consulted.{foundIn};
+ghost use Rattle.referee.specs.Calls.{truth};
+ghost use Rattle.referee.specs.Asked.{Asked};
+
+// Copies the first n flags into the room.
+fn copy_flags(flags: &[u8], n: usize, room: &mut [u8])
+    requires { ⌜ (n ≤ length (now flags)) × (n ≤ length (now room)) ⌝ }
+    ensures { λ _. ⌜ now (room .exit) ≡ take n (now (flags .entry)) ++ drop n (now (room .entry)) ⌝ }
+{
+    let mut k: usize = 0;
+    while k < n {
+        room[k] = flags[k];
+        k += 1;
+    }
+}
+
+// "model 14", after 21.
+pub fn model_fit(
+    found: Consulted,
+    position: [u8; 512],
+    choices: [u16; 8],
+    room: &mut [u8],
+) -> Refusal
+    requires { ⌜ Asked found position choices ⌝ }
+    ensures { λ r. ⌜ ((G : Game) → Accepted G → found ≡ foundIn G (model G position choices) → (r, now (room .exit)) ≡ truth (fit G) position choices (now (room .entry))) ⌝ }
+{
+    let limits = limits_of(found.header);
+    if !position_fits(&position, limits.fluents) {
+        return Refusal::BadShape;
+    }
+    if !choices_fit(&choices, limits.seats, limits.moves) {
+        return Refusal::BadShape;
+    }
+    let atoms = found.header.sizes.atoms as usize;
+    if room.len() < atoms {
+        return Refusal::RoomTooShort;
+    }
+    let flags = found.flags;
+    copy_flags(&flags, atoms, room);
+    Refusal::Success
+}
