@@ -20,3 +20,4 @@ pub mod Offering
 pub mod Opening
 pub mod Looking
 pub mod Telling
+pub mod Sending
