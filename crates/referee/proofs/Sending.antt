@@ -1,5 +1,5 @@
 -- The message of an accepted table that was consulted: its numbers are those that the marks give.
-use mathlib.Core.Path.{_≡_, refl, sym, ap, ap₂, _∙_}
+use mathlib.Core.Path.{_≡_, refl, sym, ap, ap₂, subst, _∙_}
 use mathlib.Core.Bool.{Bool, true, false, not, cond}
 use mathlib.Core.List.{List, [], _∷_, _++_, append-assoc}
 use Prim.Native.Nat.{ℕ, _+_, _*_, _≤_, _<_}
@@ -29,12 +29,13 @@ use Rattle.message.specs.declared.Sheet.{Sheet}
 use Rattle.verdict.specs.Consulted.{foundIn, consulted}
 use Rattle.verdict.specs.declared.Consulted.{Consulted}
 use Rattle.referee.specs.declared.Sent.{Sent}
+use Rattle.referee.specs.Asked.{Asked}
 use Rattle.referee.specs.Position.{over, legal, goal}
 use Rattle.referee.specs.Message.{counted, perceptsOf, legalOf, goalsOf, messageNumbers}
 use Rattle.referee.specs.Calls.{message}
 use Rattle.referee.proofs.Writing.{message-written}
 use Rattle.referee.proofs.Returns.{message-unfit}
-use Rattle.referee.proofs.Asking.{accepting, limits-are, over-mark, legal-mark, goal-mark}
+use Rattle.referee.proofs.Asking.{accepting, asked-of, limits-are, over-mark, legal-mark, goal-mark}
 use Rattle.referee.proofs.Offering.{Headed, MarksIn, seat-few}
 
 module _ (σ : Session) (c : Consulted) (l : Limits) (h : Headed c l) (G : Game) (ok : Accepted G) (e : c ≡ foundIn G (model G (σ .position) (blank 8))) where
@@ -82,10 +83,18 @@ module _ (σ : Session) (c : Consulted) (l : Limits) (h : Headed c l) (G : Game)
         flip true p m w = ap (λ (x : List ℕ). z ∷ σ .round ∷ 1 ∷ x) (sym (append-assoc (counted p) (counted []) (counted w)))
         flip false p m w = ap (λ (x : List ℕ). z ∷ σ .round ∷ 0 ∷ x) (sym (append-assoc (counted p) (counted m) (counted [])))
 
+    pub message-sent : (room : List ℕ) (at : ℕ) (now : List ℕ) → shaped G σ ≡ true → leb (G .seats) z ≡ false → 1024 ≤ length room
+        → (at, now) ≡ written (messageOf (record { seat = z; round = σ .round; over = eqb (getD ends 0 0) 1; percepts = l .percepts; moves = l .moves }) (σ .percepts) legals goals) (0, room)
+        → (record { refusal = Success; length = at }, now) ≡ message (fit G) σ z room
+    message-sent room at now a b long w = message-written G ok σ z room at now a b (le-ltb (length room) 1024 long) (w ∙ ap (λ (x : List ℕ). written x (0, room)) numbers-are)
+
 pub round-fits : (G : Game) (σ : Session) → shaped G σ ≡ true → σ .round ≤ 65535
 round-fits G σ e = shaped-parts G σ (rw e tt) .round
 
 -- ---- the whole call
+
+pub asked-blank : (t : List ℕ) (c : Consulted) (pos ch : List ℕ) → c ≡ consulted (judge t) pos ch → numberOf (c .refusal) ≡ 0 → ch ≡ blank 8 → Asked c pos (blank 8)
+asked-blank t c pos ch e z h = subst (λ (x : List ℕ). Asked c pos x) h (asked-of t c pos ch e z)
 
 pub message-refused : (t : List ℕ) (r : Refusal) (σ : Session) (z : ℕ) (room : List ℕ) → judge t ≡ unfit r → (record { refusal = r; length = 0 }, room) ≡ message (judge t) σ z room
 message-refused t r σ z room e = rw e (message-unfit blankGame σ z room r)

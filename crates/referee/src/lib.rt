@@ -3,7 +3,7 @@
 mod positions; // limits, blank rooms, positions from marks
 mod moves; // offer, on an accepted table
 mod looks; // hidden, on an accepted table
-mod tells; // the model call, on an accepted table
+mod tells; // message and model, on an accepted table
 
 use gdl::Move;
 use gdl::Seat;
@@ -13,7 +13,7 @@ use session::Session;
 use session::bytes::blank_session;
 ghost use mathlib.Core.Path.{_≡_};
 ghost use Rattle.rules.specs.Judged.{judge};
-ghost use Rattle.referee.specs.Calls.{claim, openGame, offer};
+ghost use Rattle.referee.specs.Calls.{claim, openGame, offer, message};
 ghost use Rattle.referee.specs.Promises.{CheckPromise, HiddenPromise, ModelPromise};
 
 pub struct Claimed {
@@ -118,4 +118,17 @@ pub fn model(table: &[u8], position: [u8; 512], choices: [u16; 8], room: &mut [u
         return refusal;
     }
     tells::model_fit(found, position, choices, room)
+}
+
+// The message of a seat, in house numbers, into lent room.
+pub fn message(table: &[u8], session: Session, seat: Seat, room: &mut [u8]) -> Sent
+    ensures { λ r. ⌜ (r, now (room .exit)) ≡ message (judge (now (table .entry))) session (seat .0) (now (room .entry)) ⌝ }
+{
+    let position = session.position;
+    let found = verdict::consult(table, position, positions::no_choices());
+    let refusal = found.refusal;
+    if number_of(refusal) != 0 {
+        return Sent { refusal, length: 0 };
+    }
+    tells::message_fit(found, session, seat, room)
 }

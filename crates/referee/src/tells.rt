@@ -1,19 +1,27 @@
-// The model call, on an accepted table.
+// Message and model, on an accepted table.
+use crate::Sent;
 use crate::positions::limits_of;
+use gdl::Seat;
+use message::Sheet;
+use message::write_message;
 use refusals::Refusal;
+use session::Session;
 use session::shape::choices_fit;
 use session::shape::position_fits;
+use session::shape::shaped;
 use verdict::Consulted;
+use verdict::marks_in;
 ghost use mathlib.Core.Path.{_≡_};
 ghost use mathlib.Core.List.{_++_};
 ghost use Prim.Native.Nat.{_≤_};
 ghost use lib.ListN.{length, take, drop};
 ghost use Rattle.gdl.specs.Game.{Game};
+ghost use Rattle.gdl.specs.Flags.{blank};
 ghost use Rattle.gdl.specs.Computed.{model};
 ghost use Rattle.rules.specs.Accepted.{Accepted};
 ghost use Rattle.rules.specs.Verdict.{fit};
 ghost use Rattle.verdict.specs.Consulted.{foundIn};
-ghost use Rattle.referee.specs.Calls.{truth};
+ghost use Rattle.referee.specs.Calls.{truth, message};
 ghost use Rattle.referee.specs.Asked.{Asked};
 
 // Copies the first n flags into the room.
@@ -52,4 +60,46 @@ pub fn model_fit(
     let flags = found.flags;
     copy_flags(&flags, atoms, room);
     Refusal::Success
+}
+
+// "message 15, 14", after 21.
+pub fn message_fit(found: Consulted, session: Session, seat: Seat, room: &mut [u8]) -> Sent
+    requires { ⌜ Asked found (session .position) (blank 8) ⌝ }
+    ensures { λ r. ⌜ ((G : Game) → Accepted G → found ≡ foundIn G (model G (session .position) (blank 8)) → (r, now (room .exit)) ≡ message (fit G) session (seat .0) (now (room .entry))) ⌝ }
+{
+    let limits = limits_of(found.header);
+    if !shaped(session, limits) {
+        return Sent {
+            refusal: Refusal::BadShape,
+            length: 0,
+        };
+    }
+    if limits.seats <= seat.0 {
+        return Sent {
+            refusal: Refusal::NoSuchSeat,
+            length: 0,
+        };
+    }
+    if room.len() < 1024 {
+        return Sent {
+            refusal: Refusal::RoomTooShort,
+            length: 0,
+        };
+    }
+    let ends = marks_in(found, 8, 1);
+    let legal = marks_in(found, 5, 256);
+    let goals = marks_in(found, 9, 256);
+    let percepts = session.percepts;
+    let sheet = Sheet {
+        seat: seat.0,
+        round: session.round as u16,
+        over: ends[0] == 1,
+        percepts: limits.percepts,
+        moves: limits.moves,
+    };
+    let length = write_message(room, sheet, &percepts, &legal, &goals);
+    Sent {
+        refusal: Refusal::Success,
+        length,
+    }
 }
