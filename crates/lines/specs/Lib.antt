@@ -1,0 +1,4 @@
+pub mod Words
+pub mod Every
+pub mod Decimal
+pub mod Hex
