@@ -21,3 +21,4 @@ pub mod Opening
 pub mod Looking
 pub mod Telling
 pub mod Sending
+pub mod Playing

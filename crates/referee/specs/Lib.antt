@@ -5,3 +5,4 @@ pub mod Calls
 pub mod Promises
 pub mod Published
 pub mod Asked
+pub mod Lowest

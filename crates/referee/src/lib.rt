@@ -3,6 +3,7 @@
 mod positions; // limits, blank rooms, positions from marks
 mod moves; // offer, on an accepted table
 mod looks; // hidden, on an accepted table
+mod plays; // play, on an accepted table
 mod tells; // message and model, on an accepted table
 
 use gdl::Move;
