@@ -1,27 +1,43 @@
 -- What play makes of a record: the percepts from marks, and the lowest seat at which a test strikes.
 use mathlib.Core.Path.{_≡_, refl, sym, ap, subst, _∙_}
-use mathlib.Core.Bool.{Bool, true, false, _&&_, cond}
-use mathlib.Core.List.{List}
-use Prim.Native.Nat.{ℕ, zero, suc, _+_, _*_, _/_, _%_, _≤_, _<_}
+use mathlib.Core.Bool.{Bool, true, false, not, _&&_}
+use mathlib.Core.List.{List, []}
+use Prim.Native.Nat.{ℕ, zero, suc, _+_, _-_, _*_, _/_, _%_, _≤_, _<_}
 use native.Mathlib.Omega.{arith}
 use native.Mathlib.Decide.{ℕ-discrete}
-use lib.Dec.{T, ltb, lt→ltb}
-use lib.ListN.{length, getD}
-use lib.Seq.{ext-getD}
+use native.Mathlib.Numerals.{add-one}
+use lib.Dec.{T, eqb, ltb, lt→ltb}
+use lib.ListN.{getD, take}
+use Rattle.refusals.specs.Refusal.{numberOf}
+use Rattle.refusals.specs.declared.Refusal.{Refusal}
 use Rattle.refusals.specs.Ruling.{Found, nowhere, found, lowest}
-use Rattle.gdl.specs.Game.{Game, seesKind}
+use Rattle.gdl.specs.Game.{Game, nextKind, seesKind}
 use Rattle.gdl.specs.Sets.{Atoms}
+use Rattle.gdl.specs.Flags.{on, blank}
 use Rattle.gdl.specs.Lists.{flags}
-use Rattle.gdl.specs.Computed.{anyOf}
+use Rattle.gdl.specs.Computed.{model, anyOf}
 use Rattle.gdl.proofs.Tests.{and-both}
 use Rattle.gdl.proofs.Walks.{flags-same}
-use Rattle.rules.specs.Limits.{Limits}
+use Rattle.rules.specs.Verdict.{unfit, fit}
+use Rattle.rules.specs.Judged.{judge}
 use Rattle.rules.specs.Accepted.{Accepted}
-use Rattle.session.specs.Shape.{perceptFits}
+use Rattle.session.specs.Shape.{fluentFits, perceptFits, shaped}
+use Rattle.session.specs.declared.Session.{Session}
+use Rattle.session.specs.declared.shape.Limits.{Limits}
+use Rattle.session.proofs.Shapes.{shaped-parts, choices-mean}
 use Rattle.truth.specs.Marks.{isAt, marksOf}
-use Rattle.referee.specs.Position.{atomIn}
-use Rattle.referee.specs.Lowest.{LowestOr}
+use Rattle.verdict.specs.Consulted.{foundIn, consulted}
+use Rattle.verdict.specs.declared.Consulted.{Consulted}
+use Rattle.referee.specs.Position.{atomIn, moved, played}
+use Rattle.referee.specs.Calls.{unchosen, illegal, play}
+use Rattle.referee.specs.Asked.{Asked}
+use Rattle.referee.specs.declared.Moved.{Moved}
+use Rattle.referee.specs.Lowest.{LowestOr, Chosen, lacks, wrongs}
 use Rattle.referee.proofs.Reading.{wide-at, fits, only-fitting}
+use Rattle.referee.proofs.Asking.{limits-are, legal-mark, accepting}
+use Rattle.referee.proofs.Returns.{play-unfit}
+use Rattle.referee.proofs.Offering.{Headed, MarksIn}
+use Rattle.referee.proofs.Opening.{position-is}
 
 -- ---- percepts
 
@@ -73,3 +89,79 @@ module _ (f : ℕ → Bool) (n : ℕ) where
 
     pub search-stops : f k ≡ true → LowestOr f n k
     search-stops e = record { within = s .within; passes = λ l. e; none = s .none }
+
+-- ---- the tests of play, from what was read
+
+module _ (σ : Session) (c : Consulted) (l : Limits) (h : Headed c l) (G : Game) (ok : Accepted G) (e : c ≡ foundIn G (model G (σ .position) (blank 8))) where
+  seats-here : l .seats ≡ G .seats
+  seats-here = ap (λ (x : Limits). x .seats) (limits-are G ok c (σ .position) e l h)
+
+  pub seats-few : l .seats ≤ 8
+  seats-few = omega (arith, seats-here, ok .limits .seats)
+
+  module _ (r : ℕ) (low : LowestOr (lacks (σ .choices)) (l .seats) r) where
+    pub one-lacks : r < l .seats → lowest (unchosen σ) 0 (G .seats) ≡ found r
+    one-lacks lt = ap (λ (n : ℕ). lowest (unchosen σ) 0 n) (sym seats-here) ∙ lowest-found (unchosen σ) (l .seats) r low lt
+
+    pub none-lacks : l .seats ≤ r → lowest (unchosen σ) 0 (G .seats) ≡ nowhere
+    none-lacks le = ap (λ (n : ℕ). lowest (unchosen σ) 0 n) (sym seats-here) ∙ lowest-none (unchosen σ) (l .seats) r low le
+
+    pub all-chose : shaped G σ ≡ true → l .seats ≤ r → Chosen (σ .choices) (l .seats)
+    all-chose t le = record { few = seats-few; some = λ s lt. some s (low .none s (omega arith)); within = λ s lt. within s (getD (σ .choices) s 0) refl }
+      where
+        some : (s : ℕ) → eqb (getD (σ .choices) s 0) 0 ≡ false → 1 ≤ getD (σ .choices) s 0
+        some s n = go (getD (σ .choices) s 0) n
+          where
+            go : (x : ℕ) → eqb x 0 ≡ false → 1 ≤ x
+            go zero n = absurd (subst T n tt)
+            go (suc x) n = omega arith
+
+        within : (s x : ℕ) → getD (σ .choices) s 0 ≡ x → getD (σ .choices) s 0 ≤ 256
+        within s zero q = omega (arith, q)
+        within s (suc m) q = omega (arith, q, choices-mean G (σ .choices) .0 (shaped-parts G σ (rw t tt) .choices) .moves s m q, ok .limits .moves)
+
+  module _ (legals : List ℕ) (el : MarksIn c 5 256 legals) (all : Chosen (σ .choices) (l .seats)) (r : ℕ) (low : LowestOr (wrongs (σ .choices) legals) (l .seats) r) where
+    same-test : (s : ℕ) → s < l .seats → wrongs (σ .choices) legals s ≡ illegal G σ s
+    same-test s lt = ap not (legal-mark G ok c (σ .position) e legals (el G (model G (σ .position) (blank 8)) e (ok .limits .atoms)) s (getD (σ .choices) s 0 - 1) (omega (arith, all .within s lt, all .some s lt)) (omega (arith, all .few)))
+
+    low-illegal : LowestOr (illegal G σ) (l .seats) r
+    low-illegal = record {
+      within = low .within;
+      passes = λ lt. sym (same-test r lt) ∙ low .passes lt;
+      none = λ q lt. sym (same-test q (omega (arith, low .within))) ∙ low .none q lt;
+    }
+
+    pub one-illegal : r < l .seats → lowest (illegal G σ) 0 (G .seats) ≡ found r
+    one-illegal lt = ap (λ (n : ℕ). lowest (illegal G σ) 0 n) (sym seats-here) ∙ lowest-found (illegal G σ) (l .seats) r low-illegal lt
+
+    pub none-illegal : l .seats ≤ r → lowest (illegal G σ) 0 (G .seats) ≡ nowhere
+    none-illegal le = ap (λ (n : ℕ). lowest (illegal G σ) 0 n) (sym seats-here) ∙ lowest-none (illegal G σ) (l .seats) r low-illegal le
+
+-- ---- the record after play
+
+pub record-is : (G : Game) → Accepted G → (σ : Session) (c : Consulted) → c ≡ foundIn G (model G (σ .position) (σ .choices)) → (nexts position choices percepts : List ℕ) → MarksIn c 6 1 nexts → position ≡ take 512 nexts
+    → choices ≡ blank 8 → MarksIn c 7 256 percepts → _≡_ {A = Session} (record { position = position; choices = choices; percepts = percepts; round = σ .round + 1 }) (played G σ)
+unfolding played moved
+record-is G ok σ c e nexts position choices percepts en ep ec es =
+    let X : List ℕ = model G (σ .position) (σ .choices) in
+    let p : position ≡ flags 512 (λ f. fluentFits G f && atomIn G (on X) nextKind f 0) = ep ∙ position-is G ok (on X) 6 (omega arith) refl nexts (en G X e (ok .limits .atoms)) in
+    let s : percepts ≡ flags 2048 (λ i. perceptFits G i && atomIn G (on X) seesKind (i / 256) (i % 256)) = percepts-are G ok (on X) percepts (es G X e (ok .limits .atoms)) in
+    rw (p, ec, s, add-one (σ .round)) refl
+
+-- ---- the whole call
+
+pub play-refused : (t : List ℕ) (r : Refusal) (σ : Session) → judge t ≡ unfit r → _≡_ {A = Moved} (record { refusal = r; session = σ }) (play (judge t) σ)
+play-refused t r σ e = rw e (play-unfit blankGame σ r)
+  where
+    blankGame : Game
+    blankGame = record { claim = 0; seats = 0; chance = 0; fluents = 0; moves = 0; percepts = 0; atoms = []; clauses = [] }
+
+module _ (t : List ℕ) (c : Consulted) (pos ch : List ℕ) (e : c ≡ consulted (judge t) pos ch) (z : numberOf (c .refusal) ≡ 0) (c′ : Consulted) (ch′ : List ℕ) (e′ : c′ ≡ consulted (judge t) pos ch′) where
+  pub asked-again : Asked c′ pos ch′
+  asked-again = let a = accepting t c pos ch e z in record { game = a .game; accepted = a .ok; is = rw (a .judged) at e′ }
+
+  pub play-accepted : ch ≡ blank 8 → (r : Moved) (σ : Session)
+      → ((G : Game) → Accepted G → c ≡ foundIn G (model G pos (blank 8)) → c′ ≡ foundIn G (model G pos ch′) → r ≡ play (fit G) σ) → r ≡ play (judge t) σ
+  play-accepted h r σ f =
+      let a = accepting t c pos ch e z in
+      rw (a .judged) (f (a .game) (a .ok) (a .is ∙ ap (λ (x : List ℕ). foundIn (a .game) (model (a .game) pos x)) h) (rw (a .judged) at e′))

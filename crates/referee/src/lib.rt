@@ -14,7 +14,7 @@ use session::Session;
 use session::bytes::blank_session;
 ghost use mathlib.Core.Path.{_≡_};
 ghost use Rattle.rules.specs.Judged.{judge};
-ghost use Rattle.referee.specs.Calls.{claim, openGame, offer, message};
+ghost use Rattle.referee.specs.Calls.{claim, openGame, offer, play, message};
 ghost use Rattle.referee.specs.Promises.{CheckPromise, HiddenPromise, ModelPromise};
 
 pub struct Claimed {
@@ -119,6 +119,21 @@ pub fn model(table: &[u8], position: [u8; 512], choices: [u16; 8], room: &mut [u
         return refusal;
     }
     tells::model_fit(found, position, choices, room)
+}
+
+// The next position, once every seat has chosen.
+pub fn play(table: &[u8], session: Session) -> Moved
+    ensures { λ r. ⌜ r ≡ play (judge (now (table .entry))) session ⌝ }
+{
+    let position = session.position;
+    let still = verdict::consult(table, position, positions::no_choices());
+    let refusal = still.refusal;
+    if number_of(refusal) != 0 {
+        return Moved { refusal, session };
+    }
+    let choices = session.choices;
+    let moved = verdict::consult(table, position, choices);
+    plays::play_fit(still, moved, session)
 }
 
 // The message of a seat, in house numbers, into lent room.

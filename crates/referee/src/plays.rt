@@ -1,4 +1,22 @@
 // Play, on an accepted table.
+use crate::Moved;
+use crate::positions::first_marks;
+use crate::positions::limits_of;
+use crate::positions::no_choices;
+use refusals::Refusal;
+use session::Session;
+use session::shape::shaped;
+use verdict::Consulted;
+use verdict::marks_in;
+ghost use mathlib.Core.Path.{_≡_};
+ghost use Rattle.gdl.specs.Game.{Game};
+ghost use Rattle.gdl.specs.Flags.{blank};
+ghost use Rattle.gdl.specs.Computed.{model};
+ghost use Rattle.rules.specs.Accepted.{Accepted};
+ghost use Rattle.rules.specs.Verdict.{fit};
+ghost use Rattle.verdict.specs.Consulted.{foundIn};
+ghost use Rattle.referee.specs.Calls.{play};
+ghost use Rattle.referee.specs.Asked.{Asked};
 ghost use Prim.Native.Nat.{_≤_};
 ghost use Rattle.referee.specs.Lowest.{LowestOr, Chosen, lacks, wrongs};
 
@@ -31,4 +49,50 @@ fn first_illegal(choices: [u16; 8], legal: [u8; 2048], seats: u16) -> u16
         s += 1;
     }
     s
+}
+
+fn kept(refusal: Refusal, session: Session) -> Moved
+    ensures { λ r. ⌜ r ≡ record { refusal = refusal; session = session } ⌝ }
+{
+    Moved { refusal, session }
+}
+
+// "play 19, 20, 18, 22", after 21: `still` tells of the position without moves, `moved` of it with the joint choice.
+pub fn play_fit(still: Consulted, moved: Consulted, session: Session) -> Moved
+    requires { ⌜ Asked still (session .position) (blank 8) ⌝ }
+    requires { ⌜ Asked moved (session .position) (session .choices) ⌝ }
+    ensures { λ r. ⌜ ((G : Game) → Accepted G → still ≡ foundIn G (model G (session .position) (blank 8)) → moved ≡ foundIn G (model G (session .position) (session .choices)) → r ≡ play (fit G) session) ⌝ }
+{
+    let limits = limits_of(still.header);
+    if !shaped(session, limits) {
+        return kept(Refusal::BadShape, session);
+    }
+    let ends = marks_in(still, 8, 1);
+    if ends[0] == 1 {
+        return kept(Refusal::GameOver, session);
+    }
+    let choices = session.choices;
+    let lacking = first_unchosen(choices, limits.seats);
+    if lacking < limits.seats {
+        return kept(Refusal::NoChoice(lacking as usize), session);
+    }
+    let legal = marks_in(still, 5, 256);
+    let wrong = first_illegal(choices, legal, limits.seats);
+    if wrong < limits.seats {
+        return kept(Refusal::NotLegal(wrong as usize), session);
+    }
+    if session.round == 65535 {
+        return kept(Refusal::LastRound, session);
+    }
+    let nexts = marks_in(moved, 6, 1);
+    let next = Session {
+        position: first_marks(nexts),
+        choices: no_choices(),
+        percepts: marks_in(moved, 7, 256),
+        round: session.round + 1,
+    };
+    Moved {
+        refusal: Refusal::Success,
+        session: next,
+    }
 }
