@@ -1,5 +1,5 @@
 // The commands that change nothing: check, claim, message, hidden, model and help.
-use crate::calls;
+use crate::asking;
 use commands::command::Command;
 use commands::fault::Fault;
 use commands::fault::first_of;
@@ -20,7 +20,7 @@ use session::Session;
 
 // "NUMBER PLACE CLAIM"
 fn claim(table: &[u8], room: &mut [u8]) -> usize {
-    let claimed = calls::claim(table);
+    let claimed = asking::claim(table);
     let refusal = claimed.refusal;
     let at = put_refusal(room, refusal);
     put_more(room, at, claimed.claim as u64)
@@ -42,7 +42,7 @@ fn put_message(
     lent: &mut [u8],
     room: &mut [u8],
 ) -> usize {
-    let sent = calls::message(table, session, seat, lent);
+    let sent = asking::message(table, session, seat, lent);
     let refusal = sent.refusal;
     let a = put_refusal(room, refusal);
     let b = put_more(room, a, sent.length as u64);
@@ -78,7 +78,7 @@ fn hidden(line: &[u8], table: &[u8], room: &mut [u8]) -> usize {
     let Fault::Nothing = fault else {
         return put_fault(room, fault);
     };
-    let looked = calls::hidden(
+    let looked = asking::hidden(
         table,
         Seat(value_of(asking)),
         Seat(value_of(moving)),
@@ -105,7 +105,7 @@ fn flags_in(lent: &[u8]) -> usize {
 fn put_model(table: &[u8], session: Session, lent: &mut [u8], room: &mut [u8]) -> usize {
     let position = session.position;
     let choices = session.choices;
-    let refusal = calls::model(table, position, choices, lent);
+    let refusal = asking::model(table, position, choices, lent);
     let at = put_refusal(room, refusal);
     let many = flags_in(lent);
     put_bytes(room, at, first_bytes(lent, many))
@@ -132,7 +132,7 @@ pub fn look(
     room: &mut [u8],
 ) -> usize {
     match command {
-        Command::Check => put_refusal(room, calls::check(table)),
+        Command::Check => put_refusal(room, asking::check(table)),
         Command::Claim => claim(table, room),
         Command::Message => message(line, table, session, room),
         Command::Hidden => hidden(line, table, room),

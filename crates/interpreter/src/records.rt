@@ -1,5 +1,5 @@
 // The commands that move the record on: open, offer, play, and record with its bytes.
-use crate::calls;
+use crate::asking;
 use commands::command::Command;
 use commands::fault::Fault;
 use commands::fault::first_of;
@@ -16,7 +16,7 @@ use lines::hex::Hex;
 use lines::hex::read_hex;
 use lines::words::count_words;
 use lines::words::word;
-use referee::Moved;
+use calls::Moved;
 use session::bytes::from_bytes;
 use session::Session;
 
@@ -49,7 +49,7 @@ fn offer(line: &[u8], table: &[u8], session: Session, room: &mut [u8]) -> Turned
     };
     moved(
         room,
-        calls::offer(table, session, Seat(value_of(seat)), Move(value_of(choice))),
+        asking::offer(table, session, Seat(value_of(seat)), Move(value_of(choice))),
     )
 }
 
@@ -82,9 +82,9 @@ pub fn turn(
     room: &mut [u8],
 ) -> Turned {
     match command {
-        Command::Open => moved(room, calls::open_game(table)),
+        Command::Open => moved(room, asking::open_game(table)),
         Command::Offer => offer(line, table, session, room),
-        Command::Play => moved(room, calls::play(table, session)),
+        Command::Play => moved(room, asking::play(table, session)),
         _ => record(line, session, room),
     }
 }

@@ -21,13 +21,13 @@ use Rattle.rules.specs.Judged.{judge}
 use Rattle.rules.specs.Accepted.{Accepted}
 use Rattle.rules.proofs.Judging.{judge-is}
 use Rattle.rules.proofs.Accepting.{accepted}
-use Rattle.referee.specs.Answer.{settle, answer}
-use Rattle.referee.specs.Position.{moved}
-use Rattle.referee.specs.Calls.{modelTests, hiddenTests, check, truth, hiddenFrom}
-use Rattle.referee.specs.Promises.{CheckPromise, ModelWritten, ModelPromise, HiddenSaid, HiddenPromise}
-use Rattle.referee.proofs.Rulings.{AllKept, passed-kept}
-use Rattle.referee.proofs.Passing.{model-kept}
-use Rattle.referee.proofs.Publishing.{bit-flag, element-flag}
+use Rattle.calls.specs.Answer.{settle, answer}
+use Rattle.calls.specs.Position.{moved}
+use Rattle.calls.specs.Calls.{modelTests, hiddenTests, check, truth, hiddenFrom}
+use Rattle.calls.specs.Promises.{CheckPromise, ModelWritten, ModelPromise, HiddenSaid, HiddenPromise}
+use Rattle.calls.proofs.Rulings.{AllKept, passed-kept}
+use Rattle.calls.proofs.Passing.{model-kept}
+use Rattle.calls.proofs.Publishing.{bit-flag, element-flag}
 
 pub check-meets : (s : List ℕ) → CheckPromise s (check (judge s))
 check-meets s = record { verdict = judge s; judged = judge-is s; answers = refl }

@@ -8,7 +8,7 @@ use native.Mathlib.Omega.{arith}
 use native.Mathlib.Decide.{ℕ-discrete}
 use lib.Dec.{T}
 use Rattle.gdl.specs.Lists.{thoseFrom, those}
-use Rattle.referee.specs.Published.{Below, Ascending, Lists}
+use Rattle.calls.specs.Published.{Below, Ascending, Lists}
 
 listed-in : (f : ℕ → Bool) (i n k : ℕ) → List·Memᴰ k (thoseFrom f i n) → (i ≤ k) × (k < i + n) × T (f k)
 listed-in f i zero k m = absurd (List·Memᴰ·not-nil m)

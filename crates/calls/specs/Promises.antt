@@ -16,9 +16,9 @@ use Rattle.gdl.specs.Flags.{on}
 use Rattle.gdl.specs.Computed.{did}
 use Rattle.rules.specs.Verdict.{Verdict}
 use Rattle.rules.specs.Rules.{Judged}
-use Rattle.referee.specs.declared.Looked.{Looked}
-use Rattle.referee.specs.Answer.{answer}
-use Rattle.referee.specs.Calls.{modelTests, hiddenTests, check}
+use Rattle.calls.specs.declared.Looked.{Looked}
+use Rattle.calls.specs.Answer.{answer}
+use Rattle.calls.specs.Calls.{modelTests, hiddenTests, check}
 
 -- a number that says whether P holds: 1 if so, else 0
 pub record Flag (P : Type 0) (x : ℕ) : Type 0 where

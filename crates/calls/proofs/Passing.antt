@@ -12,10 +12,10 @@ use Rattle.gdl.specs.Game.{Game}
 use Rattle.rules.specs.Verdict.{fit}
 use Rattle.session.specs.Shape.{positionShaped, choicesShaped, shaped}
 use Rattle.session.specs.declared.Session.{Session}
-use Rattle.referee.specs.declared.Moved.{Moved}
-use Rattle.referee.specs.Position.{over, legal, stored, played}
-use Rattle.referee.specs.Calls.{chosen, unchosen, illegal, offerTests, playTests, modelTests, offer, play}
-use Rattle.referee.proofs.Rulings.{kept, AllKept, success-kept}
+use Rattle.calls.specs.declared.Moved.{Moved}
+use Rattle.calls.specs.Position.{over, legal, stored, played}
+use Rattle.calls.specs.Calls.{chosen, unchosen, illegal, offerTests, playTests, modelTests, offer, play}
+use Rattle.calls.proofs.Rulings.{kept, AllKept, success-kept}
 
 module _ (G : Game) (σ : Session) (s m : ℕ) where
   pub record OfferPasses : Type 0 where

@@ -14,8 +14,8 @@ use Rattle.gdl.specs.Flags.{on, bit}
 use Rattle.rules.specs.Accepted.{Accepted}
 use Rattle.gdl.specs.Lists.{thoseFrom, those}
 use Rattle.session.specs.declared.Session.{Session}
-use Rattle.referee.specs.Position.{over, legal, goal}
-use Rattle.referee.specs.Message.{counted, perceptsOf, legalOf, goalsOf, messageNumbers, messageBytes}
+use Rattle.calls.specs.Position.{over, legal, goal}
+use Rattle.calls.specs.Message.{counted, perceptsOf, legalOf, goalsOf, messageNumbers, messageBytes}
 
 at-most-3 : (n : ℕ) → length (numberBytes n) ≤ 3
 unfolding numberBytes

@@ -27,19 +27,19 @@ use Rattle.rules.proofs.Accepting.{accepted}
 use Rattle.session.specs.Shape.{PositionFits, ChoicesFit, WellShaped, positionShaped, choicesShaped, shaped}
 use Rattle.session.specs.declared.Session.{Session}
 use Rattle.session.proofs.Shapes.{position-means, choices-mean, shaped-means}
-use Rattle.referee.specs.declared.Moved.{Moved}
-use Rattle.referee.specs.declared.Sent.{Sent}
-use Rattle.referee.specs.declared.Looked.{Looked}
-use Rattle.referee.specs.Position.{over, legal, goal, moved, stored, played}
-use Rattle.referee.specs.Message.{perceptsOf, legalOf, goalsOf, messageNumbers, messageBytes}
-use Rattle.referee.specs.Calls.{unchosen, illegal, openGame, offer, play, message, truth, hiddenFrom}
-use Rattle.referee.specs.Promises.{Flag, HiddenSaid}
-use Rattle.referee.specs.Published.{stateOf, Lists, MessageMeans, Chose, Playable, TruthMeans, Published}
-use Rattle.referee.proofs.Rulings.{is-true, is-false, from-true, from-false, lowest-nowhere, no-lowest}
-use Rattle.referee.proofs.Returns.{offer-done, play-done, message-done, model-done, hidden-done}
-use Rattle.referee.proofs.Passing.{offer-passes, PlayPasses, play-passes}
-use Rattle.referee.proofs.Listing.{those-list, none-list}
-use Rattle.referee.proofs.Meanings.{over-means, legal-means, goal-means, bounds, roles-mean, opening-means, next-means, percepts-mean}
+use Rattle.calls.specs.declared.Moved.{Moved}
+use Rattle.calls.specs.declared.Sent.{Sent}
+use Rattle.calls.specs.declared.Looked.{Looked}
+use Rattle.calls.specs.Position.{over, legal, goal, moved, stored, played}
+use Rattle.calls.specs.Message.{perceptsOf, legalOf, goalsOf, messageNumbers, messageBytes}
+use Rattle.calls.specs.Calls.{unchosen, illegal, openGame, offer, play, message, truth, hiddenFrom}
+use Rattle.calls.specs.Promises.{Flag, HiddenSaid}
+use Rattle.calls.specs.Published.{stateOf, Lists, MessageMeans, Chose, Playable, TruthMeans, Published}
+use Rattle.calls.proofs.Rulings.{is-true, is-false, from-true, from-false, lowest-nowhere, no-lowest}
+use Rattle.calls.proofs.Returns.{offer-done, play-done, message-done, model-done, hidden-done}
+use Rattle.calls.proofs.Passing.{offer-passes, PlayPasses, play-passes}
+use Rattle.calls.proofs.Listing.{those-list, none-list}
+use Rattle.calls.proofs.Meanings.{over-means, legal-means, goal-means, bounds, roles-mean, opening-means, next-means, percepts-mean}
 
 -- a bit as a flag of what it stands for
 pub bit-flag : {P : Type 0} (b : Bool) → T b ↔ P → Flag P (bit b)

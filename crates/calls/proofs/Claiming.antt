@@ -8,9 +8,9 @@ use Rattle.gdl.specs.Computed.{facts, model, reachOf, hidden}
 use Rattle.rules.specs.Verdict.{Verdict, fit}
 use Rattle.session.specs.Shape.{positionShaped, choicesShaped, perceptsShaped, shaped}
 use Rattle.session.specs.declared.Session.{Session}
-use Rattle.referee.specs.Position.{still, moved, over, legal, goal, opened, played}
-use Rattle.referee.specs.Message.{messageNumbers, messageBytes}
-use Rattle.referee.specs.Calls.{check, openGame, offer, play, truth, message, hiddenFrom, offerTests, playTests, messageTests, modelTests, hiddenTests}
+use Rattle.calls.specs.Position.{still, moved, over, legal, goal, opened, played}
+use Rattle.calls.specs.Message.{messageNumbers, messageBytes}
+use Rattle.calls.specs.Calls.{check, openGame, offer, play, truth, message, hiddenFrom, offerTests, playTests, messageTests, modelTests, hiddenTests}
 
 -- a game with another claim
 abbrev pub claiming : ℕ → Game → Game

@@ -19,9 +19,9 @@ use Rattle.gdl.specs.Computed.{did}
 use Rattle.rules.specs.Verdict.{fit}
 use Rattle.session.specs.Shape.{PositionFits, ChoicesFit, WellShaped}
 use Rattle.session.specs.declared.Session.{Session}
-use Rattle.referee.specs.declared.Sent.{Sent}
-use Rattle.referee.specs.Calls.{openGame, offer, play, message, truth, hiddenFrom}
-use Rattle.referee.specs.Promises.{Flag, HiddenSaid}
+use Rattle.calls.specs.declared.Sent.{Sent}
+use Rattle.calls.specs.Calls.{openGame, offer, play, message, truth, hiddenFrom}
+use Rattle.calls.specs.Promises.{Flag, HiddenSaid}
 
 -- a record's position as a state
 abbrev pub stateOf : Session → State

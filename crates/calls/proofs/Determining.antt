@@ -13,10 +13,10 @@ use Rattle.gdl.specs.Game.{Game}
 use Rattle.gdl.specs.Reach.{Hidden}
 use Rattle.rules.specs.Verdict.{Verdict, unfit, fit}
 use Rattle.rules.proofs.Determined.{judged-determined}
-use Rattle.referee.specs.declared.Looked.{Looked}
-use Rattle.referee.specs.Answer.{settle, answer}
-use Rattle.referee.specs.Calls.{modelTests, hiddenTests, check}
-use Rattle.referee.specs.Promises.{Flag, CheckPromise, ModelWritten, ModelPromise, HiddenSaid, HiddenPromise}
+use Rattle.calls.specs.declared.Looked.{Looked}
+use Rattle.calls.specs.Answer.{settle, answer}
+use Rattle.calls.specs.Calls.{modelTests, hiddenTests, check}
+use Rattle.calls.specs.Promises.{Flag, CheckPromise, ModelWritten, ModelPromise, HiddenSaid, HiddenPromise}
 
 pub by-equation : {W : Type 0} {f a b : W} → a ≡ f → b ≡ f → a ≡ b
 by-equation p q = p ∙ sym q

@@ -14,13 +14,13 @@ use Rattle.gdl.specs.Computed.{hidden}
 use Rattle.rules.specs.Verdict.{Verdict}
 use Rattle.session.specs.Shape.{positionShaped, choicesShaped, shaped, blankSession}
 use Rattle.session.specs.declared.Session.{Session}
-use Rattle.referee.specs.declared.Claimed.{Claimed}
-use Rattle.referee.specs.declared.Moved.{Moved}
-use Rattle.referee.specs.declared.Sent.{Sent}
-use Rattle.referee.specs.declared.Looked.{Looked}
-use Rattle.referee.specs.Answer.{answer}
-use Rattle.referee.specs.Position.{over, legal, opened, stored, played, moved}
-use Rattle.referee.specs.Message.{messageBytes}
+use Rattle.calls.specs.declared.Claimed.{Claimed}
+use Rattle.calls.specs.declared.Moved.{Moved}
+use Rattle.calls.specs.declared.Sent.{Sent}
+use Rattle.calls.specs.declared.Looked.{Looked}
+use Rattle.calls.specs.Answer.{answer}
+use Rattle.calls.specs.Position.{over, legal, opened, stored, played, moved}
+use Rattle.calls.specs.Message.{messageBytes}
 
 -- ---- the tests: "then the record or position (21), then: .."
 

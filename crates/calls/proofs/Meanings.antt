@@ -22,8 +22,8 @@ use Rattle.gdl.specs.Lists.{flags}
 use Rattle.session.specs.Shape.{fluentFits, perceptFits}
 use Rattle.session.specs.declared.Session.{Session}
 use Rattle.gdl.proofs.Walks.{flag-on}
-use Rattle.referee.specs.Position.{atomIn, still, moved, over, legal, goal, opened, played}
-use Rattle.referee.specs.Published.{stateOf}
+use Rattle.calls.specs.Position.{atomIn, still, moved, over, legal, goal, opened, played}
+use Rattle.calls.specs.Published.{stateOf}
 
 module _ (G : Game) (ok : Accepted G) where
   -- ---- reading the model

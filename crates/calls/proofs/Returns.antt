@@ -15,9 +15,9 @@ use Rattle.gdl.specs.Computed.{hidden}
 use Rattle.rules.specs.Verdict.{unfit, fit}
 use Rattle.session.specs.Shape.{positionShaped, choicesShaped, shaped, blankSession}
 use Rattle.session.specs.declared.Session.{Session}
-use Rattle.referee.specs.Position.{over, legal, opened, stored, played, moved}
-use Rattle.referee.specs.Message.{messageBytes}
-use Rattle.referee.specs.Calls.{chosen, unchosen, illegal, offerTests, playTests, messageTests, modelTests, hiddenTests, check, claim, openGame, offer, play, truth, message, hiddenFrom}
+use Rattle.calls.specs.Position.{over, legal, opened, stored, played, moved}
+use Rattle.calls.specs.Message.{messageBytes}
+use Rattle.calls.specs.Calls.{chosen, unchosen, illegal, offerTests, playTests, messageTests, modelTests, hiddenTests, check, claim, openGame, offer, play, truth, message, hiddenFrom}
 
 -- ---- check, claim, open
 

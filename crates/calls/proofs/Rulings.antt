@@ -9,7 +9,7 @@ use Rattle.refusals.specs.declared.Refusal.{Refusal}
 use Rattle.refusals.specs.declared.Refusal.the-variants.{Success}
 use Rattle.refusals.specs.Ruling.{Found, nowhere, found, lowest, Test, Ruling, passed, refused, orElse, firstOf}
 use Rattle.refusals.proofs.Ruling.{by-lowest}
-use Rattle.referee.specs.Answer.{isSuccess, settle}
+use Rattle.calls.specs.Answer.{isSuccess, settle}
 
 -- ---- a Bool as a fact
 

@@ -10,12 +10,12 @@ use Rattle.gdl.specs.Game.{Game}
 use Rattle.rules.specs.Verdict.{Verdict, unfit, fit}
 use Rattle.session.specs.Shape.{blankSession}
 use Rattle.session.specs.declared.Session.{Session}
-use Rattle.referee.specs.declared.Claimed.{Claimed}
-use Rattle.referee.specs.declared.Moved.{Moved}
-use Rattle.referee.specs.declared.Sent.{Sent}
-use Rattle.referee.specs.declared.Looked.{Looked}
-use Rattle.referee.specs.Answer.{settle, answer}
-use Rattle.referee.specs.Calls.{claim, openGame, offer, play, truth, message, hiddenFrom}
+use Rattle.calls.specs.declared.Claimed.{Claimed}
+use Rattle.calls.specs.declared.Moved.{Moved}
+use Rattle.calls.specs.declared.Sent.{Sent}
+use Rattle.calls.specs.declared.Looked.{Looked}
+use Rattle.calls.specs.Answer.{settle, answer}
+use Rattle.calls.specs.Calls.{claim, openGame, offer, play, truth, message, hiddenFrom}
 
 -- "On a refusal no byte of lent room changes and the record is the one given; a refused open hands back a blank record (round 0, nothing set or
 -- chosen). Length, claim and the hidden answer are then 0."

@@ -8,7 +8,7 @@ use Rattle.gdl.specs.Game.{Game}
 use Rattle.gdl.specs.Flags.{on, bit}
 use Rattle.gdl.specs.Lists.{those}
 use Rattle.session.specs.declared.Session.{Session}
-use Rattle.referee.specs.Position.{over, legal, goal}
+use Rattle.calls.specs.Position.{over, legal, goal}
 
 -- "count of .. and the .."
 abbrev pub counted : List ℕ → List ℕ

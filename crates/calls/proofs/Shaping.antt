@@ -13,7 +13,7 @@ use Rattle.session.specs.declared.Session.{Session}
 use Rattle.gdl.proofs.Walks.{blank-fits, every-set}
 use Rattle.session.proofs.Fitting.{flags-fit}
 use Rattle.session.proofs.Shapes.{Shaped}
-use Rattle.referee.specs.Position.{atomIn, still, moved, opened, stored, played}
+use Rattle.calls.specs.Position.{atomIn, still, moved, opened, stored, played}
 
 module _ (G : Game) where
   pub opened-shaped : Shaped G (opened G)
