@@ -12,3 +12,4 @@ pub mod ClaimAlone
 pub mod Meeting
 pub mod Determining
 pub mod Shaping
+pub mod Settled

@@ -1,10 +1,10 @@
 // The referee's calls without their promises: the answer to a line is not proved, so nothing above needs to carry them.
-use gdl::Move;
-use gdl::Seat;
 use calls::Claimed;
 use calls::Looked;
 use calls::Moved;
 use calls::Sent;
+use gdl::Move;
+use gdl::Seat;
 use refusals::Refusal;
 use session::Session;
 

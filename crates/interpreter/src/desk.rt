@@ -1,10 +1,10 @@
 // What is current, and the answer to a line.
 use crate::looks::look;
-use crate::records::turn;
 use crate::records::Turned;
+use crate::records::turn;
+use crate::tables::Taken;
 use crate::tables::load_table;
 use crate::tables::set_table;
-use crate::tables::Taken;
 use commands::command::Command;
 use commands::command::command_of;
 use commands::command::fewest;
@@ -16,8 +16,8 @@ use feed::Found;
 use lines::words::count_words;
 use lines::words::well_spaced;
 use lines::words::word;
-use session::bytes::blank_session;
 use session::Session;
+use session::bytes::blank_session;
 ghost use lib.ListN.{length};
 ghost use Rattle.feed.specs.Feed.{Held};
 

@@ -1,5 +1,6 @@
 // The commands that move the record on: open, offer, play, and record with its bytes.
 use crate::asking;
+use calls::Moved;
 use commands::command::Command;
 use commands::fault::Fault;
 use commands::fault::first_of;
@@ -16,9 +17,8 @@ use lines::hex::Hex;
 use lines::hex::read_hex;
 use lines::words::count_words;
 use lines::words::word;
-use calls::Moved;
-use session::bytes::from_bytes;
 use session::Session;
+use session::bytes::from_bytes;
 
 // The record after a command, and how long the answer is.
 pub struct Turned {

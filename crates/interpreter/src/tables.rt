@@ -2,8 +2,8 @@
 use commands::fault::Fault;
 use commands::fault::put_fault;
 use commands::reply::put_ok;
-use feed::file::load;
 use feed::file::Loaded;
+use feed::file::load;
 use lines::hex::Hex;
 use lines::hex::read_hex;
 

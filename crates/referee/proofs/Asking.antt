@@ -26,6 +26,7 @@ use Rattle.truth.specs.Marks.{marksOf}
 use Rattle.verdict.specs.Consulted.{refusedBy, foundIn, consulted, Fit}
 use Rattle.verdict.specs.declared.Consulted.{Consulted}
 use Rattle.calls.specs.Position.{still, over, legal, goal}
+use Rattle.calls.proofs.Settled.{settled}
 use Rattle.referee.specs.Asked.{Asked}
 use Rattle.referee.proofs.Checking.{unfit-of-table}
 use Rattle.referee.proofs.Reading.{wide-mark, thin-mark}
@@ -45,10 +46,6 @@ facts-same G pos pos′ ch ch′ e h = go (G .atoms)
     go : (l : List Atom) → map (λ a. bit (isFact (on pos) (did ch) a)) l ≡ map (λ a. bit (isFact (on pos′) (did ch′) a)) l
     go [] = refl
     go (a ∷ l) = rw (e (a .first), h (a .first) (a .second), go l)
-
-pub still-is : (G : Game) (pos : List ℕ) → model G pos (blank 8) ≡ still G pos
-unfolding still model
-still-is G pos = rw (facts-same G pos pos (blank 8) [] (λ f. refl) idle)
 
 pub empty-is : (G : Game) → model G (blank 512) (blank 8) ≡ still G []
 unfolding still model
@@ -88,18 +85,18 @@ fit-of {c} {pos} {ch} a = record { game = a .game; flags = model (a .game) pos c
 
 -- ---- what is read
 
-module _ (G : Game) (ok : Accepted G) (c : Consulted) (pos : List ℕ) (e : c ≡ foundIn G (model G pos (blank 8))) where
+module _ (G : Game) (ok : Accepted G) (c : Consulted) (pos ch : List ℕ) (e : c ≡ foundIn G (model G pos ch)) where
   pub limits-are : (l : Limits) → l ≡ record { seats = c .header .players .seats; fluents = c .header .sizes .fluents; moves = c .header .sizes .moves; percepts = c .header .sizes .percepts } → l ≡ limitsOf G
   limits-are l h = h ∙ ap (λ (x : Consulted). record { seats = x .header .players .seats; fluents = x .header .sizes .fluents; moves = x .header .sizes .moves; percepts = x .header .sizes .percepts }) e
 
-  pub over-mark : (marks : List ℕ) → marks ≡ marksOf 8 1 (G .atoms) (on (model G pos (blank 8))) → eqb (getD marks 0 0) 1 ≡ over G pos
+  pub over-mark : (marks : List ℕ) → marks ≡ marksOf 8 1 (G .atoms) (on (model G pos ch)) → eqb (getD marks 0 0) 1 ≡ over G pos
   unfolding over
-  over-mark marks h = thin-mark G (ok .limits) (on (model G pos (blank 8))) 8 (omega arith) marks h 0 (omega arith) ∙ rw (still-is G pos)
+  over-mark marks h = thin-mark G (ok .limits) (on (model G pos ch)) 8 (omega arith) marks h 0 (omega arith) ∙ settled G ok pos ch 8 0 0 tt
 
-  pub legal-mark : (marks : List ℕ) → marks ≡ marksOf 5 256 (G .atoms) (on (model G pos (blank 8))) → (s m : ℕ) → m < 256 → s < 8 → eqb (getD marks (s * 256 + m) 0) 1 ≡ legal G pos s m
+  pub legal-mark : (marks : List ℕ) → marks ≡ marksOf 5 256 (G .atoms) (on (model G pos ch)) → (s m : ℕ) → m < 256 → s < 8 → eqb (getD marks (s * 256 + m) 0) 1 ≡ legal G pos s m
   unfolding legal
-  legal-mark marks h s m small few = wide-mark G (ok .limits) (on (model G pos (blank 8))) 5 (ok .limits .moves) marks h s m small (omega arith) ∙ rw (still-is G pos)
+  legal-mark marks h s m small few = wide-mark G (ok .limits) (on (model G pos ch)) 5 (ok .limits .moves) marks h s m small (omega arith) ∙ settled G ok pos ch 5 s m tt
 
-  pub goal-mark : (marks : List ℕ) → marks ≡ marksOf 9 256 (G .atoms) (on (model G pos (blank 8))) → (s m : ℕ) → m < 256 → s < 8 → eqb (getD marks (s * 256 + m) 0) 1 ≡ goal G pos s m
+  pub goal-mark : (marks : List ℕ) → marks ≡ marksOf 9 256 (G .atoms) (on (model G pos ch)) → (s m : ℕ) → m < 256 → s < 8 → eqb (getD marks (s * 256 + m) 0) 1 ≡ goal G pos s m
   unfolding goal
-  goal-mark marks h s m small few = wide-mark G (ok .limits) (on (model G pos (blank 8))) 9 (omega arith) marks h s m small (omega arith) ∙ rw (still-is G pos)
+  goal-mark marks h s m small few = wide-mark G (ok .limits) (on (model G pos ch)) 9 (omega arith) marks h s m small (omega arith) ∙ settled G ok pos ch 9 s m tt

@@ -35,9 +35,9 @@ Headed c l = l ≡ record { seats = c .header .players .seats; fluents = c .head
 abbrev pub MarksIn : Consulted → ℕ → ℕ → List ℕ → Type 0
 MarksIn c kind width marks = (G : Game) (X : List ℕ) → c ≡ foundIn G X → length (G .atoms) ≤ 1024 → marks ≡ marksOf kind width (G .atoms) (on X)
 
-module _ (σ : Session) (c : Consulted) (l : Limits) (h : Headed c l) (G : Game) (ok : Accepted G) (e : c ≡ foundIn G (model G (σ .position) (blank 8))) where
+module _ (σ : Session) (c : Consulted) (l : Limits) (h : Headed c l) (G : Game) (ok : Accepted G) (ch : List ℕ) (e : c ≡ foundIn G (model G (σ .position) ch)) where
   here : l ≡ limitsOf G
-  here = limits-are G ok c (σ .position) e l h
+  here = limits-are G ok c (σ .position) ch e l h
 
   seats-here : l .seats ≡ G .seats
   seats-here = ap (λ (x : Limits). x .seats) here
@@ -54,7 +54,7 @@ module _ (σ : Session) (c : Consulted) (l : Limits) (h : Headed c l) (G : Game)
 
   module _ (marks : List ℕ) (em : MarksIn c 8 1 marks) where
     end : eqb (getD marks 0 0) 1 ≡ over G (σ .position)
-    end = over-mark G ok c (σ .position) e marks (em G (model G (σ .position) (blank 8)) e (ok .limits .atoms))
+    end = over-mark G ok c (σ .position) ch e marks (em G (model G (σ .position) ch) e (ok .limits .atoms))
 
     pub is-over : getD marks 0 0 ≡ 1 → over G (σ .position) ≡ true
     is-over t = sym end ∙ eq-eqb (getD marks 0 0) 1 t
@@ -90,7 +90,7 @@ module _ (σ : Session) (c : Consulted) (l : Limits) (h : Headed c l) (G : Game)
 
       module _ (marks : List ℕ) (em : MarksIn c 5 256 marks) (hs : s < l .seats) (hm : m < l .moves) where
         may : eqb (getD marks (s * 256 + m) 0) 1 ≡ legal G (σ .position) s m
-        may = legal-mark G ok c (σ .position) e marks (em G (model G (σ .position) (blank 8)) e (ok .limits .atoms)) s m (move-few hm) (seat-few hs)
+        may = legal-mark G ok c (σ .position) ch e marks (em G (model G (σ .position) ch) e (ok .limits .atoms)) s m (move-few hm) (seat-few hs)
 
         pub is-illegal : (getD marks (s * 256 + m) 0 ≡ 1 → ⊥) → legal G (σ .position) s m ≡ false
         is-illegal n = sym may ∙ ne-eqb (getD marks (s * 256 + m) 0) 1 n

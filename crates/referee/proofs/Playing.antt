@@ -92,9 +92,9 @@ module _ (f : ℕ → Bool) (n : ℕ) where
 
 -- ---- the tests of play, from what was read
 
-module _ (σ : Session) (c : Consulted) (l : Limits) (h : Headed c l) (G : Game) (ok : Accepted G) (e : c ≡ foundIn G (model G (σ .position) (blank 8))) where
+module _ (σ : Session) (c : Consulted) (l : Limits) (h : Headed c l) (G : Game) (ok : Accepted G) (ch : List ℕ) (e : c ≡ foundIn G (model G (σ .position) ch)) where
   seats-here : l .seats ≡ G .seats
-  seats-here = ap (λ (x : Limits). x .seats) (limits-are G ok c (σ .position) e l h)
+  seats-here = ap (λ (x : Limits). x .seats) (limits-are G ok c (σ .position) ch e l h)
 
   pub seats-few : l .seats ≤ 8
   seats-few = omega (arith, seats-here, ok .limits .seats)
@@ -122,7 +122,7 @@ module _ (σ : Session) (c : Consulted) (l : Limits) (h : Headed c l) (G : Game)
 
   module _ (legals : List ℕ) (el : MarksIn c 5 256 legals) (all : Chosen (σ .choices) (l .seats)) (r : ℕ) (low : LowestOr (wrongs (σ .choices) legals) (l .seats) r) where
     same-test : (s : ℕ) → s < l .seats → wrongs (σ .choices) legals s ≡ illegal G σ s
-    same-test s lt = ap not (legal-mark G ok c (σ .position) e legals (el G (model G (σ .position) (blank 8)) e (ok .limits .atoms)) s (getD (σ .choices) s 0 - 1) (omega (arith, all .within s lt, all .some s lt)) (omega (arith, all .few)))
+    same-test s lt = ap not (legal-mark G ok c (σ .position) ch e legals (el G (model G (σ .position) ch) e (ok .limits .atoms)) s (getD (σ .choices) s 0 - 1) (omega (arith, all .within s lt, all .some s lt)) (omega (arith, all .few)))
 
     low-illegal : LowestOr (illegal G σ) (l .seats) r
     low-illegal = record {
@@ -156,12 +156,6 @@ play-refused t r σ e = rw e (play-unfit blankGame σ r)
     blankGame : Game
     blankGame = record { claim = 0; seats = 0; chance = 0; fluents = 0; moves = 0; percepts = 0; atoms = []; clauses = [] }
 
-module _ (t : List ℕ) (c : Consulted) (pos ch : List ℕ) (e : c ≡ consulted (judge t) pos ch) (z : numberOf (c .refusal) ≡ 0) (c′ : Consulted) (ch′ : List ℕ) (e′ : c′ ≡ consulted (judge t) pos ch′) where
-  pub asked-again : Asked c′ pos ch′
-  asked-again = let a = accepting t c pos ch e z in record { game = a .game; accepted = a .ok; is = rw (a .judged) at e′ }
-
-  pub play-accepted : ch ≡ blank 8 → (r : Moved) (σ : Session)
-      → ((G : Game) → Accepted G → c ≡ foundIn G (model G pos (blank 8)) → c′ ≡ foundIn G (model G pos ch′) → r ≡ play (fit G) σ) → r ≡ play (judge t) σ
-  play-accepted h r σ f =
-      let a = accepting t c pos ch e z in
-      rw (a .judged) (f (a .game) (a .ok) (a .is ∙ ap (λ (x : List ℕ). foundIn (a .game) (model (a .game) pos x)) h) (rw (a .judged) at e′))
+pub play-accepted : (t : List ℕ) (c : Consulted) (pos ch : List ℕ) → c ≡ consulted (judge t) pos ch → numberOf (c .refusal) ≡ 0 → (r : Moved) (σ : Session)
+    → ((G : Game) → Accepted G → c ≡ foundIn G (model G pos ch) → r ≡ play (fit G) σ) → r ≡ play (judge t) σ
+play-accepted t c pos ch e z r σ f = let a = accepting t c pos ch e z in rw (a .judged) (f (a .game) (a .ok) (a .is))

@@ -40,11 +40,11 @@ use Rattle.referee.proofs.Offering.{Headed, MarksIn, seat-few}
 
 module _ (σ : Session) (c : Consulted) (l : Limits) (h : Headed c l) (G : Game) (ok : Accepted G) (e : c ≡ foundIn G (model G (σ .position) (blank 8))) where
   here : l ≡ limitsOf G
-  here = limits-are G ok c (σ .position) e l h
+  here = limits-are G ok c (σ .position) (blank 8) e l h
 
   pub sheet-fits : (z : ℕ) (m : Sheet) → m .seat ≡ z → m .percepts ≡ l .percepts → m .moves ≡ l .moves → z < l .seats → Fits m
   sheet-fits z m es ep em lt = record {
-    seat = omega (arith, seat-few σ c l h G ok e z lt);
+    seat = omega (arith, seat-few σ c l h G ok (blank 8) e z lt);
     percepts = omega (arith, ap (λ (x : Limits). x .percepts) here, ok .limits .percepts);
     moves = omega (arith, ap (λ (x : Limits). x .moves) here, ok .limits .moves);
   }
@@ -62,14 +62,14 @@ module _ (σ : Session) (c : Consulted) (l : Limits) (h : Headed c l) (G : Game)
     pub numbers-are : messageOf (record { seat = z; round = σ .round; over = eqb (getD ends 0 0) 1; percepts = l .percepts; moves = l .moves }) (σ .percepts) legals goals ≡ messageNumbers G σ z
     unfolding messageOf messageNumbers X
     numbers-are =
-        let small : z < 8 = seat-few σ c l h G ok e z lt in
-        let end : eqb (getD ends 0 0) 1 ≡ over G (σ .position) = over-mark G ok c (σ .position) e ends (ee G X e few) in
+        let small : z < 8 = seat-few σ c l h G ok (blank 8) e z lt in
+        let end : eqb (getD ends 0 0) 1 ≡ over G (σ .position) = over-mark G ok c (σ .position) (blank 8) e ends (ee G X e few) in
         let P : those (l .percepts) (from (σ .percepts) (z * 256)) ≡ perceptsOf G σ z = ap (λ (x : Limits). those (x .percepts) (from (σ .percepts) (z * 256))) here in
         let L : those (l .moves) (from legals (z * 256)) ≡ legalOf G σ z =
         ap (λ (x : Limits). those (x .moves) (from legals (z * 256))) here ∙ those-same (from legals (z * 256)) (legal G (σ .position) z) (G .moves)
-        (λ k kl. legal-mark G ok c (σ .position) e legals (el G X e few) z k (omega (arith, ok .limits .moves)) small) in
+        (λ k kl. legal-mark G ok c (σ .position) (blank 8) e legals (el G X e few) z k (omega (arith, ok .limits .moves)) small) in
         let W : those 101 (from goals (z * 256)) ≡ goalsOf G σ z =
-        those-same (from goals (z * 256)) (goal G (σ .position) z) 101 (λ k kl. goal-mark G ok c (σ .position) e goals (eg G X e few) z k (omega arith) small) in
+        those-same (from goals (z * 256)) (goal G (σ .position) z) 101 (λ k kl. goal-mark G ok c (σ .position) (blank 8) e goals (eg G X e few) z k (omega arith) small) in
         ap (λ (b : Bool). ours b (those (l .percepts) (from (σ .percepts) (z * 256))) (those (l .moves) (from legals (z * 256))) (those 101 (from goals (z * 256)))) end
         ∙ ap (λ (x : List ℕ). ours (over G (σ .position)) x (those (l .moves) (from legals (z * 256))) (those 101 (from goals (z * 256)))) P
         ∙ ap (λ (x : List ℕ). ours (over G (σ .position)) (perceptsOf G σ z) x (those 101 (from goals (z * 256)))) L

@@ -107,14 +107,13 @@ pub fn play(table: &[u8], session: Session) -> Moved
     ensures { λ r. ⌜ r ≡ play (judge (now (table .entry))) session ⌝ }
 {
     let position = session.position;
-    let still = verdict::consult(table, position, positions::no_choices());
-    let refusal = still.refusal;
+    let choices = session.choices;
+    let found = verdict::consult(table, position, choices);
+    let refusal = found.refusal;
     if number_of(refusal) != 0 {
         return Moved { refusal, session };
     }
-    let choices = session.choices;
-    let moved = verdict::consult(table, position, choices);
-    plays::play_fit(still, moved, session)
+    plays::play_fit(found, session)
 }
 
 // The message of a seat, in house numbers, into lent room.

@@ -1,6 +1,6 @@
 // Hidden, on an accepted table.
-use calls::Looked;
 use crate::positions::limits_of;
+use calls::Looked;
 use gdl::Move;
 use gdl::Seat;
 use refusals::Refusal;

@@ -1,6 +1,6 @@
 // Offer, on an accepted table.
-use calls::Moved;
 use crate::positions::limits_of;
+use calls::Moved;
 use gdl::Move;
 use gdl::Seat;
 use refusals::Refusal;

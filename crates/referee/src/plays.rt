@@ -1,8 +1,8 @@
 // Play, on an accepted table.
-use calls::Moved;
 use crate::positions::first_marks;
 use crate::positions::limits_of;
 use crate::positions::no_choices;
+use calls::Moved;
 use refusals::Refusal;
 use session::Session;
 use session::shape::shaped;
@@ -10,7 +10,6 @@ use verdict::Consulted;
 use verdict::marks_in;
 ghost use mathlib.Core.Path.{_≡_};
 ghost use Rattle.gdl.specs.Game.{Game};
-ghost use Rattle.gdl.specs.Flags.{blank};
 ghost use Rattle.gdl.specs.Computed.{model};
 ghost use Rattle.rules.specs.Accepted.{Accepted};
 ghost use Rattle.rules.specs.Verdict.{fit};
@@ -57,17 +56,16 @@ fn kept(refusal: Refusal, session: Session) -> Moved
     Moved { refusal, session }
 }
 
-// "play 19, 20, 18, 22", after 21: `still` tells of the position without moves, `moved` of it with the joint choice.
-pub fn play_fit(still: Consulted, moved: Consulted, session: Session) -> Moved
-    requires { ⌜ Asked still (session .position) (blank 8) ⌝ }
-    requires { ⌜ Asked moved (session .position) (session .choices) ⌝ }
-    ensures { λ r. ⌜ ((G : Game) → Accepted G → still ≡ foundIn G (model G (session .position) (blank 8)) → moved ≡ foundIn G (model G (session .position) (session .choices)) → r ≡ play (fit G) session) ⌝ }
+// "play 19, 20, 18, 22", after 21. What was found is true with the joint choice; by rule 10 that changes neither the end nor what is legal.
+pub fn play_fit(found: Consulted, session: Session) -> Moved
+    requires { ⌜ Asked found (session .position) (session .choices) ⌝ }
+    ensures { λ r. ⌜ ((G : Game) → Accepted G → found ≡ foundIn G (model G (session .position) (session .choices)) → r ≡ play (fit G) session) ⌝ }
 {
-    let limits = limits_of(still.header);
+    let limits = limits_of(found.header);
     if !shaped(session, limits) {
         return kept(Refusal::BadShape, session);
     }
-    let ends = marks_in(still, 8, 1);
+    let ends = marks_in(found, 8, 1);
     if ends[0] == 1 {
         return kept(Refusal::GameOver, session);
     }
@@ -76,7 +74,7 @@ pub fn play_fit(still: Consulted, moved: Consulted, session: Session) -> Moved
     if lacking < limits.seats {
         return kept(Refusal::NoChoice(lacking as usize), session);
     }
-    let legal = marks_in(still, 5, 256);
+    let legal = marks_in(found, 5, 256);
     let wrong = first_illegal(choices, legal, limits.seats);
     if wrong < limits.seats {
         return kept(Refusal::NotLegal(wrong as usize), session);
@@ -84,11 +82,11 @@ pub fn play_fit(still: Consulted, moved: Consulted, session: Session) -> Moved
     if session.round == 65535 {
         return kept(Refusal::LastRound, session);
     }
-    let nexts = marks_in(moved, 6, 1);
+    let nexts = marks_in(found, 6, 1);
     let next = Session {
         position: first_marks(nexts),
         choices: no_choices(),
-        percepts: marks_in(moved, 7, 256),
+        percepts: marks_in(found, 7, 256),
         round: session.round + 1,
     };
     Moved {

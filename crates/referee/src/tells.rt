@@ -1,6 +1,6 @@
 // Message and model, on an accepted table.
-use calls::Sent;
 use crate::positions::limits_of;
+use calls::Sent;
 use gdl::Seat;
 use message::Sheet;
 use message::write_message;

@@ -7,7 +7,9 @@ examine-requires : tie.Need-examine-requires
 examine-requires c κs = search needs
 
 returns : tie.Need-returns
-returns c = check-kept (c .before .before .args .table .now) (c .examine .result) (c .examine .ensures)
+returns c =
+    let a = c .before .before .args in
+    check-kept (a .table .now) (c .examine .result) (c .examine .ensures)
 
 pub check-spec : {M : Type 1} → statement M
 check-spec = tie.close (tie.spec examine-requires returns)

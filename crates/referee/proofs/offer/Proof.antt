@@ -19,15 +19,28 @@ number-of-requires c κs = search needs
 
 returns : tie.Need-returns
 returns c =
-    offer-refused (c .before .before .before .before .before .before .args .table .now) (c .before .before .consult .result .refusal) (c .before .before .before .before .before .before .args .session) (c .before .before .before .before .before .before .args .seat .0) (c .before .before .before .before .before .before .args .choice .0) (refusing (c .before .before .before .before .before .before .args .table .now) (c .before .before .consult .result) (c .before .before .before .before .before .before .args .session .position) (c .before .before .before .no-choices .result) (c .before .before .consult .ensures) (λ q. c .if1 .taken (c .before .number-of .ensures ∙ q)))
+    let a = c .before .before .before .before .before .before .args in
+    let no-choices = c .before .before .before .no-choices in
+    let consult = c .before .before .consult in
+    let number-of = c .before .number-of in
+    offer-refused (a .table .now) (consult .result .refusal) (a .session) (a .seat .0) (a .choice .0) (refusing (a .table .now) (consult .result) (a .session .position) (no-choices .result) (consult .ensures) (λ q. c .if1 .taken (number-of .ensures ∙ q)))
 
 offer-fit-requires : tie.Need-offer-fit-requires
 offer-fit-requires c κs =
-    subst (λ (x : List ℕ). Asked (c .before .before .consult .result) (c .before .before .before .before .before .before .args .session .position) x) (c .before .before .before .no-choices .ensures) (asked-of (c .before .before .before .before .before .before .args .table .now) (c .before .before .consult .result) (c .before .before .before .before .before .before .args .session .position) (c .before .before .before .no-choices .result) (c .before .before .consult .ensures) (sym (c .before .number-of .ensures) ∙ c .if1 .left))
+    let a = c .before .before .before .before .before .before .args in
+    let no-choices = c .before .before .before .no-choices in
+    let consult = c .before .before .consult in
+    let number-of = c .before .number-of in
+    subst (λ (x : List ℕ). Asked (consult .result) (a .session .position) x) (no-choices .ensures) (asked-of (a .table .now) (consult .result) (a .session .position) (no-choices .result) (consult .ensures) (sym (number-of .ensures) ∙ c .if1 .left))
 
 returns-2 : tie.Need-returns-2
 returns-2 c =
-    offer-accepted (c .before .before .before .before .before .before .before .args .table .now) (c .before .before .before .consult .result) (c .before .before .before .before .before .before .before .args .session .position) (c .before .before .before .before .no-choices .result) (c .before .before .before .consult .ensures) (sym (c .before .before .number-of .ensures) ∙ c .before .if1 .left) (c .before .before .before .before .no-choices .ensures) (c .before .before .before .before .before .before .before .args .seat .0) (c .before .before .before .before .before .before .before .args .choice .0) (c .offer-fit .result) (c .before .before .before .before .before .before .before .args .session) (c .offer-fit .ensures)
+    let a = c .before .before .before .before .before .before .before .args in
+    let no-choices = c .before .before .before .before .no-choices in
+    let consult = c .before .before .before .consult in
+    let number-of = c .before .before .number-of in
+    let if1 = c .before .if1 in
+    offer-accepted (a .table .now) (consult .result) (a .session .position) (no-choices .result) (consult .ensures) (sym (number-of .ensures) ∙ if1 .left) (no-choices .ensures) (a .seat .0) (a .choice .0) (c .offer-fit .result) (a .session) (c .offer-fit .ensures)
 
 pub offer-spec : {M : Type 1} → statement M
 offer-spec =

@@ -22,11 +22,22 @@ blank-session-requires c κs = search needs
 
 returns : tie.Need-returns
 returns c =
-    open-refused (c .before .before .before .before .before .before .before .args .table .now) (c .before .before .before .consult .result .refusal) (c .blank-session .result) (refusing (c .before .before .before .before .before .before .before .args .table .now) (c .before .before .before .consult .result) (c .before .before .before .before .before .no-fluents .result) (c .before .before .before .before .no-choices .result) (c .before .before .before .consult .ensures) (λ q. c .before .if1 .taken (c .before .before .number-of .ensures ∙ q))) (c .blank-session .ensures)
+    let a = c .before .before .before .before .before .before .before .args in
+    let no-fluents = c .before .before .before .before .before .no-fluents in
+    let no-choices = c .before .before .before .before .no-choices in
+    let consult = c .before .before .before .consult in
+    let number-of = c .before .before .number-of in
+    let if1 = c .before .if1 in
+    open-refused (a .table .now) (consult .result .refusal) (c .blank-session .result) (refusing (a .table .now) (consult .result) (no-fluents .result) (no-choices .result) (consult .ensures) (λ q. if1 .taken (number-of .ensures ∙ q))) (c .blank-session .ensures)
 
 marks-in-requires : tie.Need-marks-in-requires
 marks-in-requires c κs =
-    (fit-of (asked-of (c .before .before .before .before .before .before .args .table .now) (c .before .before .consult .result) (c .before .before .before .before .no-fluents .result) (c .before .before .before .no-choices .result) (c .before .before .consult .ensures) (sym (c .before .number-of .ensures) ∙ c .if1 .left)), search needs)
+    let a = c .before .before .before .before .before .before .args in
+    let no-fluents = c .before .before .before .before .no-fluents in
+    let no-choices = c .before .before .before .no-choices in
+    let consult = c .before .before .consult in
+    let number-of = c .before .number-of in
+    (fit-of (asked-of (a .table .now) (consult .result) (no-fluents .result) (no-choices .result) (consult .ensures) (sym (number-of .ensures) ∙ c .if1 .left)), search needs)
 
 first-marks-requires : tie.Need-first-marks-requires
 first-marks-requires c κs = search needs
@@ -39,7 +50,16 @@ no-percepts-requires c κs = search needs
 
 returns-2 : tie.Need-returns-2
 returns-2 c =
-    open-accepted (c .before .before .before .before .before .before .before .before .before .before .args .table .now) (c .before .before .before .before .before .before .consult .result) (c .before .before .before .before .before .before .before .before .no-fluents .result) (c .before .before .before .before .before .before .before .no-choices .result) (c .before .before .before .before .before .before .consult .ensures) (sym (c .before .before .before .before .before .number-of .ensures) ∙ c .before .before .before .before .if1 .left) (c .before .before .before .before .before .before .before .before .no-fluents .ensures) (c .before .before .before .before .before .before .before .no-choices .ensures) (c .before .before .before .marks-in .result) (c .before .before .first-marks .result) (c .before .no-choices2 .result) (c .no-percepts .result) (c .before .before .before .marks-in .ensures) (c .before .before .first-marks .ensures) (c .before .no-choices2 .ensures) (c .no-percepts .ensures)
+    let a = c .before .before .before .before .before .before .before .before .before .before .args in
+    let no-fluents = c .before .before .before .before .before .before .before .before .no-fluents in
+    let no-choices = c .before .before .before .before .before .before .before .no-choices in
+    let consult = c .before .before .before .before .before .before .consult in
+    let number-of = c .before .before .before .before .before .number-of in
+    let if1 = c .before .before .before .before .if1 in
+    let marks-in = c .before .before .before .marks-in in
+    let first-marks = c .before .before .first-marks in
+    let no-choices2 = c .before .no-choices2 in
+    open-accepted (a .table .now) (consult .result) (no-fluents .result) (no-choices .result) (consult .ensures) (sym (number-of .ensures) ∙ if1 .left) (no-fluents .ensures) (no-choices .ensures) (marks-in .result) (first-marks .result) (no-choices2 .result) (c .no-percepts .result) (marks-in .ensures) (first-marks .ensures) (no-choices2 .ensures) (c .no-percepts .ensures)
 
 pub open-game-spec : {M : Type 1} → statement M
 open-game-spec =

@@ -5,26 +5,35 @@ use Rattle.calls.proofs.Returns.{hidden-no-asking, hidden-no-moving, hidden-no-
 use borrow.Author.Needs.{needs}
 use Rattle.referee.proofs.looks.hidden_fit.Statement.{statement}
 use Rattle.referee.proofs.looks.hidden_fit.Tie as tie
-use Rattle.referee.proofs.looks.hidden_fit.Reads as reads
 
 limits-of-requires : tie.Need-limits-of-requires
 limits-of-requires c κs = search needs
 
 returns : tie.Need-returns
 returns c =
-    λ G ok e. hidden-no-asking G (c .before .before .before .before .args .asking .0) (c .before .before .before .before .args .moving .0) (c .before .before .before .before .args .choice .0) (seat-out (c .before .before .before .before .args .found) (c .before .before .before .limits-of .result) (c .before .before .before .limits-of .ensures) G ok (reachOf G (c .before .before .before .before .args .asking .0)) e (c .before .before .before .before .args .asking .0) (c .if1 .taken))
+    let a = c .before .before .before .before .args in
+    let limits-of = c .before .before .before .limits-of in
+    λ G ok e. hidden-no-asking G (a .asking .0) (a .moving .0) (a .choice .0) (seat-out (a .found) (limits-of .result) (limits-of .ensures) G ok (reachOf G (a .asking .0)) e (a .asking .0) (c .if1 .taken))
 
 returns-2 : tie.Need-returns-2
 returns-2 c =
-    λ G ok e. hidden-no-moving G (c .before .before .before .before .before .before .before .args .asking .0) (c .before .before .before .before .before .before .before .args .moving .0) (c .before .before .before .before .before .before .before .args .choice .0) (seat-in (c .before .before .before .before .before .before .before .args .found) (c .before .before .before .before .before .before .limits-of .result) (c .before .before .before .before .before .before .limits-of .ensures) G ok (reachOf G (c .before .before .before .before .before .before .before .args .asking .0)) e (c .before .before .before .before .before .before .before .args .asking .0) (c .before .before .before .if1 .left)) (seat-out (c .before .before .before .before .before .before .before .args .found) (c .before .before .before .before .before .before .limits-of .result) (c .before .before .before .before .before .before .limits-of .ensures) G ok (reachOf G (c .before .before .before .before .before .before .before .args .asking .0)) e (c .before .before .before .before .before .before .before .args .moving .0) (c .if2 .taken))
+    let a = c .before .before .before .before .before .before .before .args in
+    let limits-of = c .before .before .before .before .before .before .limits-of in
+    let if1 = c .before .before .before .if1 in
+    λ G ok e. hidden-no-moving G (a .asking .0) (a .moving .0) (a .choice .0) (seat-in (a .found) (limits-of .result) (limits-of .ensures) G ok (reachOf G (a .asking .0)) e (a .asking .0) (if1 .left)) (seat-out (a .found) (limits-of .result) (limits-of .ensures) G ok (reachOf G (a .asking .0)) e (a .moving .0) (c .if2 .taken))
 
 returns-3 : tie.Need-returns-3
 returns-3 c =
-    λ G ok e. hidden-no-move G (c .before .before .before .before .before .before .before .before .before .before .args .asking .0) (c .before .before .before .before .before .before .before .before .before .before .args .moving .0) (c .before .before .before .before .before .before .before .before .before .before .args .choice .0) (seat-in (c .before .before .before .before .before .before .before .before .before .before .args .found) (c .before .before .before .before .before .before .before .before .before .limits-of .result) (c .before .before .before .before .before .before .before .before .before .limits-of .ensures) G ok (reachOf G (c .before .before .before .before .before .before .before .before .before .before .args .asking .0)) e (c .before .before .before .before .before .before .before .before .before .before .args .asking .0) (c .before .before .before .before .before .before .if1 .left)) (seat-in (c .before .before .before .before .before .before .before .before .before .before .args .found) (c .before .before .before .before .before .before .before .before .before .limits-of .result) (c .before .before .before .before .before .before .before .before .before .limits-of .ensures) G ok (reachOf G (c .before .before .before .before .before .before .before .before .before .before .args .asking .0)) e (c .before .before .before .before .before .before .before .before .before .before .args .moving .0) (c .before .before .before .if2 .left)) (move-out (c .before .before .before .before .before .before .before .before .before .before .args .found) (c .before .before .before .before .before .before .before .before .before .limits-of .result) (c .before .before .before .before .before .before .before .before .before .limits-of .ensures) G ok (reachOf G (c .before .before .before .before .before .before .before .before .before .before .args .asking .0)) e (c .before .before .before .before .before .before .before .before .before .before .args .choice .0) (c .if3 .taken))
+    let a = c .before .before .before .before .before .before .before .before .before .before .args in
+    let limits-of = c .before .before .before .before .before .before .before .before .before .limits-of in
+    let if1 = c .before .before .before .before .before .before .if1 in
+    let if2 = c .before .before .before .if2 in
+    λ G ok e. hidden-no-move G (a .asking .0) (a .moving .0) (a .choice .0) (seat-in (a .found) (limits-of .result) (limits-of .ensures) G ok (reachOf G (a .asking .0)) e (a .asking .0) (if1 .left)) (seat-in (a .found) (limits-of .result) (limits-of .ensures) G ok (reachOf G (a .asking .0)) e (a .moving .0) (if2 .left)) (move-out (a .found) (limits-of .result) (limits-of .ensures) G ok (reachOf G (a .asking .0)) e (a .choice .0) (c .if3 .taken))
 
 marks-in-requires : tie.Need-marks-in-requires
 marks-in-requires c κs =
-    (traced-fit (c .before .before .before .before .before .before .before .before .before .before .pre), search needs)
+    let pre = c .before .before .before .before .before .before .before .before .before .before .pre in
+    (traced-fit pre, search needs)
 
 cast-at : tie.Need-cast-at
 cast-at c = search needs
@@ -40,15 +49,32 @@ add-if4 c = search needs
 
 array-read-if4 : tie.Need-array-read-if4
 array-read-if4 c =
-    omega (arith, seat-small (c .before .before .before .before .before .before .before .before .before .before .before .before .before .args .found) (c .before .before .before .before .before .before .before .before .before .before .before .before .limits-of .result) (c .before .before .before .before .before .before .before .before .before .before .before .before .limits-of .ensures) (c .before .before .before .before .before .before .before .before .before .before .before .before .before .pre .game) (c .before .before .before .before .before .before .before .before .before .before .before .before .before .pre .accepted) (reachOf (c .before .before .before .before .before .before .before .before .before .before .before .before .before .pre .game) (c .before .before .before .before .before .before .before .before .before .before .before .before .before .args .asking .0)) (c .before .before .before .before .before .before .before .before .before .before .before .before .before .pre .is) (c .before .before .before .before .before .before .before .before .before .before .before .before .before .args .moving .0) (c .before .before .before .before .before .before .if2 .left), move-small (c .before .before .before .before .before .before .before .before .before .before .before .before .before .args .found) (c .before .before .before .before .before .before .before .before .before .before .before .before .limits-of .result) (c .before .before .before .before .before .before .before .before .before .before .before .before .limits-of .ensures) (c .before .before .before .before .before .before .before .before .before .before .before .before .before .pre .game) (c .before .before .before .before .before .before .before .before .before .before .before .before .before .pre .accepted) (reachOf (c .before .before .before .before .before .before .before .before .before .before .before .before .before .pre .game) (c .before .before .before .before .before .before .before .before .before .before .before .before .before .args .asking .0)) (c .before .before .before .before .before .before .before .before .before .before .before .before .before .pre .is) (c .before .before .before .before .before .before .before .before .before .before .before .before .before .args .choice .0) (c .before .before .before .if3 .left))
+    let a = c .before .before .before .before .before .before .before .before .before .before .before .before .before .args in
+    let pre = c .before .before .before .before .before .before .before .before .before .before .before .before .before .pre in
+    let limits-of = c .before .before .before .before .before .before .before .before .before .before .before .before .limits-of in
+    let if2 = c .before .before .before .before .before .before .if2 in
+    let if3 = c .before .before .before .if3 in
+    omega (arith, seat-small (a .found) (limits-of .result) (limits-of .ensures) (pre .game) (pre .accepted) (reachOf (pre .game) (a .asking .0)) (pre .is) (a .moving .0) (if2 .left), move-small (a .found) (limits-of .result) (limits-of .ensures) (pre .game) (pre .accepted) (reachOf (pre .game) (a .asking .0)) (pre .is) (a .choice .0) (if3 .left))
 
 returns-4 : tie.Need-returns-4
 returns-4 c =
-    λ G ok e. is-seen (c .before .before .before .before .before .before .before .before .before .before .before .before .before .before .args .found) (c .before .before .before .before .before .before .before .before .before .before .before .before .before .limits-of .result) (c .before .before .before .before .before .before .before .before .before .before .before .before .before .limits-of .ensures) G ok (c .before .before .before .before .before .before .before .before .before .before .before .before .before .before .args .asking .0) e (c .before .before .before .before .before .before .before .before .before .before .before .before .before .before .args .moving .0) (c .before .before .before .before .before .before .before .before .before .before .before .before .before .before .args .choice .0) (c .before .before .before .before .before .before .before .if2 .left) (c .before .before .before .before .if3 .left) (c .before .before .before .marks-in .result) (c .before .before .before .marks-in .ensures) (seat-in (c .before .before .before .before .before .before .before .before .before .before .before .before .before .before .args .found) (c .before .before .before .before .before .before .before .before .before .before .before .before .before .limits-of .result) (c .before .before .before .before .before .before .before .before .before .before .before .before .before .limits-of .ensures) G ok (reachOf G (c .before .before .before .before .before .before .before .before .before .before .before .before .before .before .args .asking .0)) e (c .before .before .before .before .before .before .before .before .before .before .before .before .before .before .args .asking .0) (c .before .before .before .before .before .before .before .before .before .before .if1 .left)) (c .if4 .taken)
+    let a = c .before .before .before .before .before .before .before .before .before .before .before .before .before .before .args in
+    let limits-of = c .before .before .before .before .before .before .before .before .before .before .before .before .before .limits-of in
+    let if1 = c .before .before .before .before .before .before .before .before .before .before .if1 in
+    let if2 = c .before .before .before .before .before .before .before .if2 in
+    let if3 = c .before .before .before .before .if3 in
+    let marks-in = c .before .before .before .marks-in in
+    λ G ok e. is-seen (a .found) (limits-of .result) (limits-of .ensures) G ok (a .asking .0) e (a .moving .0) (a .choice .0) (if2 .left) (if3 .left) (marks-in .result) (marks-in .ensures) (seat-in (a .found) (limits-of .result) (limits-of .ensures) G ok (reachOf G (a .asking .0)) e (a .asking .0) (if1 .left)) (c .if4 .taken)
 
 returns-5 : tie.Need-returns-5
 returns-5 c =
-    λ G ok e. is-hidden (c .before .before .before .before .before .before .before .before .before .before .before .before .before .before .args .found) (c .before .before .before .before .before .before .before .before .before .before .before .before .before .limits-of .result) (c .before .before .before .before .before .before .before .before .before .before .before .before .before .limits-of .ensures) G ok (c .before .before .before .before .before .before .before .before .before .before .before .before .before .before .args .asking .0) e (c .before .before .before .before .before .before .before .before .before .before .before .before .before .before .args .moving .0) (c .before .before .before .before .before .before .before .before .before .before .before .before .before .before .args .choice .0) (c .before .before .before .before .before .before .before .if2 .left) (c .before .before .before .before .if3 .left) (c .before .before .before .marks-in .result) (c .before .before .before .marks-in .ensures) (seat-in (c .before .before .before .before .before .before .before .before .before .before .before .before .before .before .args .found) (c .before .before .before .before .before .before .before .before .before .before .before .before .before .limits-of .result) (c .before .before .before .before .before .before .before .before .before .before .before .before .before .limits-of .ensures) G ok (reachOf G (c .before .before .before .before .before .before .before .before .before .before .before .before .before .before .args .asking .0)) e (c .before .before .before .before .before .before .before .before .before .before .before .before .before .before .args .asking .0) (c .before .before .before .before .before .before .before .before .before .before .if1 .left)) (c .if4 .left)
+    let a = c .before .before .before .before .before .before .before .before .before .before .before .before .before .before .args in
+    let limits-of = c .before .before .before .before .before .before .before .before .before .before .before .before .before .limits-of in
+    let if1 = c .before .before .before .before .before .before .before .before .before .before .if1 in
+    let if2 = c .before .before .before .before .before .before .before .if2 in
+    let if3 = c .before .before .before .before .if3 in
+    let marks-in = c .before .before .before .marks-in in
+    λ G ok e. is-hidden (a .found) (limits-of .result) (limits-of .ensures) G ok (a .asking .0) e (a .moving .0) (a .choice .0) (if2 .left) (if3 .left) (marks-in .result) (marks-in .ensures) (seat-in (a .found) (limits-of .result) (limits-of .ensures) G ok (reachOf G (a .asking .0)) e (a .asking .0) (if1 .left)) (c .if4 .left)
 
 pub hidden-fit-spec : {M : Type 1} → statement M
 hidden-fit-spec =

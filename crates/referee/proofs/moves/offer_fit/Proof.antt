@@ -2,6 +2,7 @@ use native.Mathlib.Omega.{arith}
 use Rattle.referee.proofs.Asking.{fit-of}
 use Rattle.referee.proofs.Offering.{misshapen, well-shaped, is-over, goes-on, no-seat, a-seat, seat-few, no-move, a-move, move-few, has-chosen, not-chosen, is-illegal, is-legal}
 use Rattle.calls.proofs.Returns.{offer-bad-shape, offer-over, offer-no-seat, offer-no-move, offer-chosen, offer-illegal, offer-stored}
+use Rattle.gdl.specs.Flags.{blank}
 use borrow.Author.Needs.{needs}
 use Rattle.referee.proofs.moves.offer_fit.Statement.{statement}
 use Rattle.referee.proofs.moves.offer_fit.Tie as tie
@@ -14,26 +15,48 @@ shaped-requires c κs = search needs
 
 returns : tie.Need-returns
 returns c =
-    λ G ok e. offer-bad-shape G (c .before .before .before .args .session) (c .before .before .before .args .seat .0) (c .before .before .before .args .choice .0) (misshapen (c .before .before .before .args .session) (c .before .before .before .args .found) (c .before .before .limits-of .result) (c .before .before .limits-of .ensures) G ok e (c .before .shaped .result) (c .before .shaped .ensures) (c .if1 .taken))
+    let a = c .before .before .before .args in
+    let limits-of = c .before .before .limits-of in
+    let shaped = c .before .shaped in
+    λ G ok e. offer-bad-shape G (a .session) (a .seat .0) (a .choice .0) (misshapen (a .session) (a .found) (limits-of .result) (limits-of .ensures) G ok (blank 8) e (shaped .result) (shaped .ensures) (c .if1 .taken))
 
 marks-in-requires : tie.Need-marks-in-requires
 marks-in-requires c κs =
-    (fit-of (c .before .before .before .pre), search needs)
+    let pre = c .before .before .before .pre in
+    (fit-of pre, search needs)
 
 array-read-if2 : tie.Need-array-read-if2
 array-read-if2 c = search needs
 
 returns-2 : tie.Need-returns-2
 returns-2 c =
-    λ G ok e. offer-over G (c .before .before .before .before .before .args .session) (c .before .before .before .before .before .args .seat .0) (c .before .before .before .before .before .args .choice .0) (well-shaped (c .before .before .before .before .before .args .session) (c .before .before .before .before .before .args .found) (c .before .before .before .before .limits-of .result) (c .before .before .before .before .limits-of .ensures) G ok e (c .before .before .before .shaped .result) (c .before .before .before .shaped .ensures) (c .before .before .if1 .left)) (is-over (c .before .before .before .before .before .args .session) (c .before .before .before .before .before .args .found) (c .before .before .before .before .limits-of .result) (c .before .before .before .before .limits-of .ensures) G ok e (c .before .marks-in .result) (c .before .marks-in .ensures) (c .if2 .taken))
+    let a = c .before .before .before .before .before .args in
+    let limits-of = c .before .before .before .before .limits-of in
+    let shaped = c .before .before .before .shaped in
+    let if1 = c .before .before .if1 in
+    let marks-in = c .before .marks-in in
+    λ G ok e. offer-over G (a .session) (a .seat .0) (a .choice .0) (well-shaped (a .session) (a .found) (limits-of .result) (limits-of .ensures) G ok (blank 8) e (shaped .result) (shaped .ensures) (if1 .left)) (is-over (a .session) (a .found) (limits-of .result) (limits-of .ensures) G ok (blank 8) e (marks-in .result) (marks-in .ensures) (c .if2 .taken))
 
 returns-3 : tie.Need-returns-3
 returns-3 c =
-    λ G ok e. offer-no-seat G (c .before .before .before .before .before .before .before .before .args .session) (c .before .before .before .before .before .before .before .before .args .seat .0) (c .before .before .before .before .before .before .before .before .args .choice .0) (well-shaped (c .before .before .before .before .before .before .before .before .args .session) (c .before .before .before .before .before .before .before .before .args .found) (c .before .before .before .before .before .before .before .limits-of .result) (c .before .before .before .before .before .before .before .limits-of .ensures) G ok e (c .before .before .before .before .before .before .shaped .result) (c .before .before .before .before .before .before .shaped .ensures) (c .before .before .before .before .before .if1 .left)) (goes-on (c .before .before .before .before .before .before .before .before .args .session) (c .before .before .before .before .before .before .before .before .args .found) (c .before .before .before .before .before .before .before .limits-of .result) (c .before .before .before .before .before .before .before .limits-of .ensures) G ok e (c .before .before .before .before .marks-in .result) (c .before .before .before .before .marks-in .ensures) (c .before .before .before .if2 .left)) (no-seat (c .before .before .before .before .before .before .before .before .args .session) (c .before .before .before .before .before .before .before .before .args .found) (c .before .before .before .before .before .before .before .limits-of .result) (c .before .before .before .before .before .before .before .limits-of .ensures) G ok e (c .before .before .before .before .before .before .before .before .args .seat .0) (c .if3 .taken))
+    let a = c .before .before .before .before .before .before .before .before .args in
+    let limits-of = c .before .before .before .before .before .before .before .limits-of in
+    let shaped = c .before .before .before .before .before .before .shaped in
+    let if1 = c .before .before .before .before .before .if1 in
+    let marks-in = c .before .before .before .before .marks-in in
+    let if2 = c .before .before .before .if2 in
+    λ G ok e. offer-no-seat G (a .session) (a .seat .0) (a .choice .0) (well-shaped (a .session) (a .found) (limits-of .result) (limits-of .ensures) G ok (blank 8) e (shaped .result) (shaped .ensures) (if1 .left)) (goes-on (a .session) (a .found) (limits-of .result) (limits-of .ensures) G ok (blank 8) e (marks-in .result) (marks-in .ensures) (if2 .left)) (no-seat (a .session) (a .found) (limits-of .result) (limits-of .ensures) G ok (blank 8) e (a .seat .0) (c .if3 .taken))
 
 returns-4 : tie.Need-returns-4
 returns-4 c =
-    λ G ok e. offer-no-move G (c .before .before .before .before .before .before .before .before .before .before .before .args .session) (c .before .before .before .before .before .before .before .before .before .before .before .args .seat .0) (c .before .before .before .before .before .before .before .before .before .before .before .args .choice .0) (well-shaped (c .before .before .before .before .before .before .before .before .before .before .before .args .session) (c .before .before .before .before .before .before .before .before .before .before .before .args .found) (c .before .before .before .before .before .before .before .before .before .before .limits-of .result) (c .before .before .before .before .before .before .before .before .before .before .limits-of .ensures) G ok e (c .before .before .before .before .before .before .before .before .before .shaped .result) (c .before .before .before .before .before .before .before .before .before .shaped .ensures) (c .before .before .before .before .before .before .before .before .if1 .left)) (goes-on (c .before .before .before .before .before .before .before .before .before .before .before .args .session) (c .before .before .before .before .before .before .before .before .before .before .before .args .found) (c .before .before .before .before .before .before .before .before .before .before .limits-of .result) (c .before .before .before .before .before .before .before .before .before .before .limits-of .ensures) G ok e (c .before .before .before .before .before .before .before .marks-in .result) (c .before .before .before .before .before .before .before .marks-in .ensures) (c .before .before .before .before .before .before .if2 .left)) (a-seat (c .before .before .before .before .before .before .before .before .before .before .before .args .session) (c .before .before .before .before .before .before .before .before .before .before .before .args .found) (c .before .before .before .before .before .before .before .before .before .before .limits-of .result) (c .before .before .before .before .before .before .before .before .before .before .limits-of .ensures) G ok e (c .before .before .before .before .before .before .before .before .before .before .before .args .seat .0) (c .before .before .before .if3 .left)) (no-move (c .before .before .before .before .before .before .before .before .before .before .before .args .session) (c .before .before .before .before .before .before .before .before .before .before .before .args .found) (c .before .before .before .before .before .before .before .before .before .before .limits-of .result) (c .before .before .before .before .before .before .before .before .before .before .limits-of .ensures) G ok e (c .before .before .before .before .before .before .before .before .before .before .before .args .seat .0) (c .before .before .before .before .before .before .before .before .before .before .before .args .choice .0) (c .if4 .taken))
+    let a = c .before .before .before .before .before .before .before .before .before .before .before .args in
+    let limits-of = c .before .before .before .before .before .before .before .before .before .before .limits-of in
+    let shaped = c .before .before .before .before .before .before .before .before .before .shaped in
+    let if1 = c .before .before .before .before .before .before .before .before .if1 in
+    let marks-in = c .before .before .before .before .before .before .before .marks-in in
+    let if2 = c .before .before .before .before .before .before .if2 in
+    let if3 = c .before .before .before .if3 in
+    λ G ok e. offer-no-move G (a .session) (a .seat .0) (a .choice .0) (well-shaped (a .session) (a .found) (limits-of .result) (limits-of .ensures) G ok (blank 8) e (shaped .result) (shaped .ensures) (if1 .left)) (goes-on (a .session) (a .found) (limits-of .result) (limits-of .ensures) G ok (blank 8) e (marks-in .result) (marks-in .ensures) (if2 .left)) (a-seat (a .session) (a .found) (limits-of .result) (limits-of .ensures) G ok (blank 8) e (a .seat .0) (if3 .left)) (no-move (a .session) (a .found) (limits-of .result) (limits-of .ensures) G ok (blank 8) e (a .seat .0) (a .choice .0) (c .if4 .taken))
 
 cast-at : tie.Need-cast-at
 cast-at c = search needs
@@ -43,15 +66,28 @@ mul-if5 c = search needs
 
 array-read-if5 : tie.Need-array-read-if5
 array-read-if5 c =
-    omega (arith, seat-few (c .before .before .before .before .before .before .before .before .before .before .before .before .before .args .session) (c .before .before .before .before .before .before .before .before .before .before .before .before .before .args .found) (c .before .before .before .before .before .before .before .before .before .before .before .before .limits-of .result) (c .before .before .before .before .before .before .before .before .before .before .before .before .limits-of .ensures) (c .before .before .before .before .before .before .before .before .before .before .before .before .before .pre .game) (c .before .before .before .before .before .before .before .before .before .before .before .before .before .pre .accepted) (c .before .before .before .before .before .before .before .before .before .before .before .before .before .pre .is) (c .before .before .before .before .before .before .before .before .before .before .before .before .before .args .seat .0) (c .before .before .before .before .before .if3 .left))
+    let a = c .before .before .before .before .before .before .before .before .before .before .before .before .before .args in
+    let pre = c .before .before .before .before .before .before .before .before .before .before .before .before .before .pre in
+    let limits-of = c .before .before .before .before .before .before .before .before .before .before .before .before .limits-of in
+    let if3 = c .before .before .before .before .before .if3 in
+    omega (arith, seat-few (a .session) (a .found) (limits-of .result) (limits-of .ensures) (pre .game) (pre .accepted) (blank 8) (pre .is) (a .seat .0) (if3 .left))
 
 returns-5 : tie.Need-returns-5
 returns-5 c =
-    λ G ok e. offer-chosen G (c .before .before .before .before .before .before .before .before .before .before .before .before .before .before .args .session) (c .before .before .before .before .before .before .before .before .before .before .before .before .before .before .args .seat .0) (c .before .before .before .before .before .before .before .before .before .before .before .before .before .before .args .choice .0) (well-shaped (c .before .before .before .before .before .before .before .before .before .before .before .before .before .before .args .session) (c .before .before .before .before .before .before .before .before .before .before .before .before .before .before .args .found) (c .before .before .before .before .before .before .before .before .before .before .before .before .before .limits-of .result) (c .before .before .before .before .before .before .before .before .before .before .before .before .before .limits-of .ensures) G ok e (c .before .before .before .before .before .before .before .before .before .before .before .before .shaped .result) (c .before .before .before .before .before .before .before .before .before .before .before .before .shaped .ensures) (c .before .before .before .before .before .before .before .before .before .before .before .if1 .left)) (goes-on (c .before .before .before .before .before .before .before .before .before .before .before .before .before .before .args .session) (c .before .before .before .before .before .before .before .before .before .before .before .before .before .before .args .found) (c .before .before .before .before .before .before .before .before .before .before .before .before .before .limits-of .result) (c .before .before .before .before .before .before .before .before .before .before .before .before .before .limits-of .ensures) G ok e (c .before .before .before .before .before .before .before .before .before .before .marks-in .result) (c .before .before .before .before .before .before .before .before .before .before .marks-in .ensures) (c .before .before .before .before .before .before .before .before .before .if2 .left)) (a-seat (c .before .before .before .before .before .before .before .before .before .before .before .before .before .before .args .session) (c .before .before .before .before .before .before .before .before .before .before .before .before .before .before .args .found) (c .before .before .before .before .before .before .before .before .before .before .before .before .before .limits-of .result) (c .before .before .before .before .before .before .before .before .before .before .before .before .before .limits-of .ensures) G ok e (c .before .before .before .before .before .before .before .before .before .before .before .before .before .before .args .seat .0) (c .before .before .before .before .before .before .if3 .left)) (a-move (c .before .before .before .before .before .before .before .before .before .before .before .before .before .before .args .session) (c .before .before .before .before .before .before .before .before .before .before .before .before .before .before .args .found) (c .before .before .before .before .before .before .before .before .before .before .before .before .before .limits-of .result) (c .before .before .before .before .before .before .before .before .before .before .before .before .before .limits-of .ensures) G ok e (c .before .before .before .before .before .before .before .before .before .before .before .before .before .before .args .seat .0) (c .before .before .before .before .before .before .before .before .before .before .before .before .before .before .args .choice .0) (c .before .before .before .if4 .left)) (has-chosen (c .before .before .before .before .before .before .before .before .before .before .before .before .before .before .args .session) (c .before .before .before .before .before .before .before .before .before .before .before .before .before .before .args .found) (c .before .before .before .before .before .before .before .before .before .before .before .before .before .limits-of .result) (c .before .before .before .before .before .before .before .before .before .before .before .before .before .limits-of .ensures) G ok e (c .before .before .before .before .before .before .before .before .before .before .before .before .before .before .args .seat .0) (c .if5 .taken))
+    let a = c .before .before .before .before .before .before .before .before .before .before .before .before .before .before .args in
+    let limits-of = c .before .before .before .before .before .before .before .before .before .before .before .before .before .limits-of in
+    let shaped = c .before .before .before .before .before .before .before .before .before .before .before .before .shaped in
+    let if1 = c .before .before .before .before .before .before .before .before .before .before .before .if1 in
+    let marks-in = c .before .before .before .before .before .before .before .before .before .before .marks-in in
+    let if2 = c .before .before .before .before .before .before .before .before .before .if2 in
+    let if3 = c .before .before .before .before .before .before .if3 in
+    let if4 = c .before .before .before .if4 in
+    λ G ok e. offer-chosen G (a .session) (a .seat .0) (a .choice .0) (well-shaped (a .session) (a .found) (limits-of .result) (limits-of .ensures) G ok (blank 8) e (shaped .result) (shaped .ensures) (if1 .left)) (goes-on (a .session) (a .found) (limits-of .result) (limits-of .ensures) G ok (blank 8) e (marks-in .result) (marks-in .ensures) (if2 .left)) (a-seat (a .session) (a .found) (limits-of .result) (limits-of .ensures) G ok (blank 8) e (a .seat .0) (if3 .left)) (a-move (a .session) (a .found) (limits-of .result) (limits-of .ensures) G ok (blank 8) e (a .seat .0) (a .choice .0) (if4 .left)) (has-chosen (a .session) (a .found) (limits-of .result) (limits-of .ensures) G ok (blank 8) e (a .seat .0) (c .if5 .taken))
 
 marks-in-requires-2 : tie.Need-marks-in-requires-2
 marks-in-requires-2 c κs =
-    (fit-of (c .before .before .before .before .before .before .before .before .before .before .before .before .before .before .pre), search needs)
+    let pre = c .before .before .before .before .before .before .before .before .before .before .before .before .before .before .pre in
+    (fit-of pre, search needs)
 
 mul-if6 : tie.Need-mul-if6
 mul-if6 c = search needs
@@ -64,11 +100,26 @@ add-if6 c = search needs
 
 array-read-if6 : tie.Need-array-read-if6
 array-read-if6 c =
-    omega (arith, seat-few (c .before .before .before .before .before .before .before .before .before .before .before .before .before .before .before .before .args .session) (c .before .before .before .before .before .before .before .before .before .before .before .before .before .before .before .before .args .found) (c .before .before .before .before .before .before .before .before .before .before .before .before .before .before .before .limits-of .result) (c .before .before .before .before .before .before .before .before .before .before .before .before .before .before .before .limits-of .ensures) (c .before .before .before .before .before .before .before .before .before .before .before .before .before .before .before .before .pre .game) (c .before .before .before .before .before .before .before .before .before .before .before .before .before .before .before .before .pre .accepted) (c .before .before .before .before .before .before .before .before .before .before .before .before .before .before .before .before .pre .is) (c .before .before .before .before .before .before .before .before .before .before .before .before .before .before .before .before .args .seat .0) (c .before .before .before .before .before .before .before .before .if3 .left), move-few (c .before .before .before .before .before .before .before .before .before .before .before .before .before .before .before .before .args .session) (c .before .before .before .before .before .before .before .before .before .before .before .before .before .before .before .before .args .found) (c .before .before .before .before .before .before .before .before .before .before .before .before .before .before .before .limits-of .result) (c .before .before .before .before .before .before .before .before .before .before .before .before .before .before .before .limits-of .ensures) (c .before .before .before .before .before .before .before .before .before .before .before .before .before .before .before .before .pre .game) (c .before .before .before .before .before .before .before .before .before .before .before .before .before .before .before .before .pre .accepted) (c .before .before .before .before .before .before .before .before .before .before .before .before .before .before .before .before .pre .is) (c .before .before .before .before .before .before .before .before .before .before .before .before .before .before .before .before .args .seat .0) (c .before .before .before .before .before .before .before .before .before .before .before .before .before .before .before .before .args .choice .0) (c .before .before .before .before .before .if4 .left))
+    let a = c .before .before .before .before .before .before .before .before .before .before .before .before .before .before .before .before .args in
+    let pre = c .before .before .before .before .before .before .before .before .before .before .before .before .before .before .before .before .pre in
+    let limits-of = c .before .before .before .before .before .before .before .before .before .before .before .before .before .before .before .limits-of in
+    let if3 = c .before .before .before .before .before .before .before .before .if3 in
+    let if4 = c .before .before .before .before .before .if4 in
+    omega (arith, seat-few (a .session) (a .found) (limits-of .result) (limits-of .ensures) (pre .game) (pre .accepted) (blank 8) (pre .is) (a .seat .0) (if3 .left), move-few (a .session) (a .found) (limits-of .result) (limits-of .ensures) (pre .game) (pre .accepted) (blank 8) (pre .is) (a .seat .0) (a .choice .0) (if4 .left))
 
 returns-6 : tie.Need-returns-6
 returns-6 c =
-    λ G ok e. offer-illegal G (c .before .before .before .before .before .before .before .before .before .before .before .before .before .before .before .before .before .args .session) (c .before .before .before .before .before .before .before .before .before .before .before .before .before .before .before .before .before .args .seat .0) (c .before .before .before .before .before .before .before .before .before .before .before .before .before .before .before .before .before .args .choice .0) (well-shaped (c .before .before .before .before .before .before .before .before .before .before .before .before .before .before .before .before .before .args .session) (c .before .before .before .before .before .before .before .before .before .before .before .before .before .before .before .before .before .args .found) (c .before .before .before .before .before .before .before .before .before .before .before .before .before .before .before .before .limits-of .result) (c .before .before .before .before .before .before .before .before .before .before .before .before .before .before .before .before .limits-of .ensures) G ok e (c .before .before .before .before .before .before .before .before .before .before .before .before .before .before .before .shaped .result) (c .before .before .before .before .before .before .before .before .before .before .before .before .before .before .before .shaped .ensures) (c .before .before .before .before .before .before .before .before .before .before .before .before .before .before .if1 .left)) (goes-on (c .before .before .before .before .before .before .before .before .before .before .before .before .before .before .before .before .before .args .session) (c .before .before .before .before .before .before .before .before .before .before .before .before .before .before .before .before .before .args .found) (c .before .before .before .before .before .before .before .before .before .before .before .before .before .before .before .before .limits-of .result) (c .before .before .before .before .before .before .before .before .before .before .before .before .before .before .before .before .limits-of .ensures) G ok e (c .before .before .before .before .before .before .before .before .before .before .before .before .before .marks-in .result) (c .before .before .before .before .before .before .before .before .before .before .before .before .before .marks-in .ensures) (c .before .before .before .before .before .before .before .before .before .before .before .before .if2 .left)) (a-seat (c .before .before .before .before .before .before .before .before .before .before .before .before .before .before .before .before .before .args .session) (c .before .before .before .before .before .before .before .before .before .before .before .before .before .before .before .before .before .args .found) (c .before .before .before .before .before .before .before .before .before .before .before .before .before .before .before .before .limits-of .result) (c .before .before .before .before .before .before .before .before .before .before .before .before .before .before .before .before .limits-of .ensures) G ok e (c .before .before .before .before .before .before .before .before .before .before .before .before .before .before .before .before .before .args .seat .0) (c .before .before .before .before .before .before .before .before .before .if3 .left)) (a-move (c .before .before .before .before .before .before .before .before .before .before .before .before .before .before .before .before .before .args .session) (c .before .before .before .before .before .before .before .before .before .before .before .before .before .before .before .before .before .args .found) (c .before .before .before .before .before .before .before .before .before .before .before .before .before .before .before .before .limits-of .result) (c .before .before .before .before .before .before .before .before .before .before .before .before .before .before .before .before .limits-of .ensures) G ok e (c .before .before .before .before .before .before .before .before .before .before .before .before .before .before .before .before .before .args .seat .0) (c .before .before .before .before .before .before .before .before .before .before .before .before .before .before .before .before .before .args .choice .0) (c .before .before .before .before .before .before .if4 .left)) (not-chosen (c .before .before .before .before .before .before .before .before .before .before .before .before .before .before .before .before .before .args .session) (c .before .before .before .before .before .before .before .before .before .before .before .before .before .before .before .before .before .args .found) (c .before .before .before .before .before .before .before .before .before .before .before .before .before .before .before .before .limits-of .result) (c .before .before .before .before .before .before .before .before .before .before .before .before .before .before .before .before .limits-of .ensures) G ok e (c .before .before .before .before .before .before .before .before .before .before .before .before .before .before .before .before .before .args .seat .0) (c .before .before .before .if5 .left)) (is-illegal (c .before .before .before .before .before .before .before .before .before .before .before .before .before .before .before .before .before .args .session) (c .before .before .before .before .before .before .before .before .before .before .before .before .before .before .before .before .before .args .found) (c .before .before .before .before .before .before .before .before .before .before .before .before .before .before .before .before .limits-of .result) (c .before .before .before .before .before .before .before .before .before .before .before .before .before .before .before .before .limits-of .ensures) G ok e (c .before .before .before .before .before .before .before .before .before .before .before .before .before .before .before .before .before .args .seat .0) (c .before .before .before .before .before .before .before .before .before .before .before .before .before .before .before .before .before .args .choice .0) (c .before .before .marks-in2 .result) (c .before .before .marks-in2 .ensures) (c .before .before .before .before .before .before .before .before .before .if3 .left) (c .before .before .before .before .before .before .if4 .left) (c .if6 .taken))
+    let a = c .before .before .before .before .before .before .before .before .before .before .before .before .before .before .before .before .before .args in
+    let limits-of = c .before .before .before .before .before .before .before .before .before .before .before .before .before .before .before .before .limits-of in
+    let shaped = c .before .before .before .before .before .before .before .before .before .before .before .before .before .before .before .shaped in
+    let if1 = c .before .before .before .before .before .before .before .before .before .before .before .before .before .before .if1 in
+    let marks-in = c .before .before .before .before .before .before .before .before .before .before .before .before .before .marks-in in
+    let if2 = c .before .before .before .before .before .before .before .before .before .before .before .before .if2 in
+    let if3 = c .before .before .before .before .before .before .before .before .before .if3 in
+    let if4 = c .before .before .before .before .before .before .if4 in
+    let if5 = c .before .before .before .if5 in
+    let marks-in2 = c .before .before .marks-in2 in
+    λ G ok e. offer-illegal G (a .session) (a .seat .0) (a .choice .0) (well-shaped (a .session) (a .found) (limits-of .result) (limits-of .ensures) G ok (blank 8) e (shaped .result) (shaped .ensures) (if1 .left)) (goes-on (a .session) (a .found) (limits-of .result) (limits-of .ensures) G ok (blank 8) e (marks-in .result) (marks-in .ensures) (if2 .left)) (a-seat (a .session) (a .found) (limits-of .result) (limits-of .ensures) G ok (blank 8) e (a .seat .0) (if3 .left)) (a-move (a .session) (a .found) (limits-of .result) (limits-of .ensures) G ok (blank 8) e (a .seat .0) (a .choice .0) (if4 .left)) (not-chosen (a .session) (a .found) (limits-of .result) (limits-of .ensures) G ok (blank 8) e (a .seat .0) (if5 .left)) (is-illegal (a .session) (a .found) (limits-of .result) (limits-of .ensures) G ok (blank 8) e (a .seat .0) (a .choice .0) (marks-in2 .result) (marks-in2 .ensures) (if3 .left) (if4 .left) (c .if6 .taken))
 
 add-choices : tie.Need-add-choices
 add-choices c = search needs
@@ -78,11 +129,26 @@ mul-choices c = search needs
 
 array-write-choices : tie.Need-array-write-choices
 array-write-choices c =
-    omega (arith, seat-few (c .before .before .before .before .before .before .before .before .before .before .before .before .before .before .before .before .before .before .args .session) (c .before .before .before .before .before .before .before .before .before .before .before .before .before .before .before .before .before .before .args .found) (c .before .before .before .before .before .before .before .before .before .before .before .before .before .before .before .before .before .limits-of .result) (c .before .before .before .before .before .before .before .before .before .before .before .before .before .before .before .before .before .limits-of .ensures) (c .before .before .before .before .before .before .before .before .before .before .before .before .before .before .before .before .before .before .pre .game) (c .before .before .before .before .before .before .before .before .before .before .before .before .before .before .before .before .before .before .pre .accepted) (c .before .before .before .before .before .before .before .before .before .before .before .before .before .before .before .before .before .before .pre .is) (c .before .before .before .before .before .before .before .before .before .before .before .before .before .before .before .before .before .before .args .seat .0) (c .before .before .before .before .before .before .before .before .before .before .if3 .left))
+    let a = c .before .before .before .before .before .before .before .before .before .before .before .before .before .before .before .before .before .before .args in
+    let pre = c .before .before .before .before .before .before .before .before .before .before .before .before .before .before .before .before .before .before .pre in
+    let limits-of = c .before .before .before .before .before .before .before .before .before .before .before .before .before .before .before .before .before .limits-of in
+    let if3 = c .before .before .before .before .before .before .before .before .before .before .if3 in
+    omega (arith, seat-few (a .session) (a .found) (limits-of .result) (limits-of .ensures) (pre .game) (pre .accepted) (blank 8) (pre .is) (a .seat .0) (if3 .left))
 
 returns-7 : tie.Need-returns-7
 returns-7 c =
-    λ G ok e. offer-stored G (c .before .before .before .before .before .before .before .before .before .before .before .before .before .before .before .before .before .before .before .before .args .session) (c .before .before .before .before .before .before .before .before .before .before .before .before .before .before .before .before .before .before .before .before .args .seat .0) (c .before .before .before .before .before .before .before .before .before .before .before .before .before .before .before .before .before .before .before .before .args .choice .0) (well-shaped (c .before .before .before .before .before .before .before .before .before .before .before .before .before .before .before .before .before .before .before .before .args .session) (c .before .before .before .before .before .before .before .before .before .before .before .before .before .before .before .before .before .before .before .before .args .found) (c .before .before .before .before .before .before .before .before .before .before .before .before .before .before .before .before .before .before .before .limits-of .result) (c .before .before .before .before .before .before .before .before .before .before .before .before .before .before .before .before .before .before .before .limits-of .ensures) G ok e (c .before .before .before .before .before .before .before .before .before .before .before .before .before .before .before .before .before .before .shaped .result) (c .before .before .before .before .before .before .before .before .before .before .before .before .before .before .before .before .before .before .shaped .ensures) (c .before .before .before .before .before .before .before .before .before .before .before .before .before .before .before .before .before .if1 .left)) (goes-on (c .before .before .before .before .before .before .before .before .before .before .before .before .before .before .before .before .before .before .before .before .args .session) (c .before .before .before .before .before .before .before .before .before .before .before .before .before .before .before .before .before .before .before .before .args .found) (c .before .before .before .before .before .before .before .before .before .before .before .before .before .before .before .before .before .before .before .limits-of .result) (c .before .before .before .before .before .before .before .before .before .before .before .before .before .before .before .before .before .before .before .limits-of .ensures) G ok e (c .before .before .before .before .before .before .before .before .before .before .before .before .before .before .before .before .marks-in .result) (c .before .before .before .before .before .before .before .before .before .before .before .before .before .before .before .before .marks-in .ensures) (c .before .before .before .before .before .before .before .before .before .before .before .before .before .before .before .if2 .left)) (a-seat (c .before .before .before .before .before .before .before .before .before .before .before .before .before .before .before .before .before .before .before .before .args .session) (c .before .before .before .before .before .before .before .before .before .before .before .before .before .before .before .before .before .before .before .before .args .found) (c .before .before .before .before .before .before .before .before .before .before .before .before .before .before .before .before .before .before .before .limits-of .result) (c .before .before .before .before .before .before .before .before .before .before .before .before .before .before .before .before .before .before .before .limits-of .ensures) G ok e (c .before .before .before .before .before .before .before .before .before .before .before .before .before .before .before .before .before .before .before .before .args .seat .0) (c .before .before .before .before .before .before .before .before .before .before .before .before .if3 .left)) (a-move (c .before .before .before .before .before .before .before .before .before .before .before .before .before .before .before .before .before .before .before .before .args .session) (c .before .before .before .before .before .before .before .before .before .before .before .before .before .before .before .before .before .before .before .before .args .found) (c .before .before .before .before .before .before .before .before .before .before .before .before .before .before .before .before .before .before .before .limits-of .result) (c .before .before .before .before .before .before .before .before .before .before .before .before .before .before .before .before .before .before .before .limits-of .ensures) G ok e (c .before .before .before .before .before .before .before .before .before .before .before .before .before .before .before .before .before .before .before .before .args .seat .0) (c .before .before .before .before .before .before .before .before .before .before .before .before .before .before .before .before .before .before .before .before .args .choice .0) (c .before .before .before .before .before .before .before .before .before .if4 .left)) (not-chosen (c .before .before .before .before .before .before .before .before .before .before .before .before .before .before .before .before .before .before .before .before .args .session) (c .before .before .before .before .before .before .before .before .before .before .before .before .before .before .before .before .before .before .before .before .args .found) (c .before .before .before .before .before .before .before .before .before .before .before .before .before .before .before .before .before .before .before .limits-of .result) (c .before .before .before .before .before .before .before .before .before .before .before .before .before .before .before .before .before .before .before .limits-of .ensures) G ok e (c .before .before .before .before .before .before .before .before .before .before .before .before .before .before .before .before .before .before .before .before .args .seat .0) (c .before .before .before .before .before .before .if5 .left)) (is-legal (c .before .before .before .before .before .before .before .before .before .before .before .before .before .before .before .before .before .before .before .before .args .session) (c .before .before .before .before .before .before .before .before .before .before .before .before .before .before .before .before .before .before .before .before .args .found) (c .before .before .before .before .before .before .before .before .before .before .before .before .before .before .before .before .before .before .before .limits-of .result) (c .before .before .before .before .before .before .before .before .before .before .before .before .before .before .before .before .before .before .before .limits-of .ensures) G ok e (c .before .before .before .before .before .before .before .before .before .before .before .before .before .before .before .before .before .before .before .before .args .seat .0) (c .before .before .before .before .before .before .before .before .before .before .before .before .before .before .before .before .before .before .before .before .args .choice .0) (c .before .before .before .before .before .marks-in2 .result) (c .before .before .before .before .before .marks-in2 .ensures) (c .before .before .before .before .before .before .before .before .before .before .before .before .if3 .left) (c .before .before .before .before .before .before .before .before .before .if4 .left) (c .before .before .before .if6 .left))
+    let a = c .before .before .before .before .before .before .before .before .before .before .before .before .before .before .before .before .before .before .before .before .args in
+    let limits-of = c .before .before .before .before .before .before .before .before .before .before .before .before .before .before .before .before .before .before .before .limits-of in
+    let shaped = c .before .before .before .before .before .before .before .before .before .before .before .before .before .before .before .before .before .before .shaped in
+    let if1 = c .before .before .before .before .before .before .before .before .before .before .before .before .before .before .before .before .before .if1 in
+    let marks-in = c .before .before .before .before .before .before .before .before .before .before .before .before .before .before .before .before .marks-in in
+    let if2 = c .before .before .before .before .before .before .before .before .before .before .before .before .before .before .before .if2 in
+    let if3 = c .before .before .before .before .before .before .before .before .before .before .before .before .if3 in
+    let if4 = c .before .before .before .before .before .before .before .before .before .if4 in
+    let if5 = c .before .before .before .before .before .before .if5 in
+    let marks-in2 = c .before .before .before .before .before .marks-in2 in
+    let if6 = c .before .before .before .if6 in
+    λ G ok e. offer-stored G (a .session) (a .seat .0) (a .choice .0) (well-shaped (a .session) (a .found) (limits-of .result) (limits-of .ensures) G ok (blank 8) e (shaped .result) (shaped .ensures) (if1 .left)) (goes-on (a .session) (a .found) (limits-of .result) (limits-of .ensures) G ok (blank 8) e (marks-in .result) (marks-in .ensures) (if2 .left)) (a-seat (a .session) (a .found) (limits-of .result) (limits-of .ensures) G ok (blank 8) e (a .seat .0) (if3 .left)) (a-move (a .session) (a .found) (limits-of .result) (limits-of .ensures) G ok (blank 8) e (a .seat .0) (a .choice .0) (if4 .left)) (not-chosen (a .session) (a .found) (limits-of .result) (limits-of .ensures) G ok (blank 8) e (a .seat .0) (if5 .left)) (is-legal (a .session) (a .found) (limits-of .result) (limits-of .ensures) G ok (blank 8) e (a .seat .0) (a .choice .0) (marks-in2 .result) (marks-in2 .ensures) (if3 .left) (if4 .left) (if6 .left))
 
 pub offer-fit-spec : {M : Type 1} → statement M
 offer-fit-spec =

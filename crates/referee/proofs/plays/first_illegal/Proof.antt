@@ -10,8 +10,6 @@ use Rattle.referee.specs.Lowest.{lacks, wrongs}
 use Rattle.referee.proofs.Playing.{Searched, search-starts, search-stops, search-goes-on, search-ends}
 use Rattle.referee.proofs.plays.first_illegal.Statement.{statement}
 use Rattle.referee.proofs.plays.first_illegal.Tie as tie
-use Rattle.referee.proofs.plays.first_illegal.Reads as reads
-use Rattle.referee.proofs.plays.first_illegal.Lts as lts
 
 abbrev Inv-loop : tie.InvT-loop
 Inv-loop seats choices legal s₀ s = Searched (wrongs choices legal) seats s
@@ -19,65 +17,76 @@ Inv-loop seats choices legal s₀ s = Searched (wrongs choices legal) seats s
 abbrev μ-loop : tie.MeasureT-loop
 μ-loop seats choices legal s₀ s = seats - s
 
--- src/plays.rt:26:5
 loop-holds : tie.Need-loop-holds Inv-loop μ-loop
 loop-holds c = search-starts (wrongs (c .args .t1) (c .args .t2)) (c .args .seats)
 
--- src/plays.rt:27:30
 cast-chosen : tie.Need-cast-chosen Inv-loop μ-loop
 cast-chosen c = search needs
 
--- src/plays.rt:27:22
 mul-chosen : tie.Need-mul-chosen Inv-loop μ-loop
 mul-chosen c = search needs
 
--- src/plays.rt:27:22
 array-read-chosen : tie.Need-array-read-chosen Inv-loop μ-loop
-array-read-chosen c = omega (arith, c .before .before .pre .some (c .before .loop .s) (c .loop-test .taken), c .before .before .pre .within (c .before .loop .s) (c .loop-test .taken), c .before .before .pre .few)
+array-read-chosen c =
+    let pre = c .before .before .pre in
+    let loop = c .before .loop in
+    omega (arith, pre .some (loop .s) (c .loop-test .taken), pre .within (loop .s) (c .loop-test .taken), pre .few)
 
--- src/plays.rt:27:22
 sub-chosen : tie.Need-sub-chosen Inv-loop μ-loop
-sub-chosen c = c .before .before .pre .some (c .before .loop .s) (c .loop-test .taken)
+sub-chosen c =
+    let pre = c .before .before .pre in
+    let loop = c .before .loop in
+    pre .some (loop .s) (c .loop-test .taken)
 
--- src/plays.rt:28:18
 cast-if1 : tie.Need-cast-if1 Inv-loop μ-loop
 cast-if1 c = search needs
 
--- src/plays.rt:28:18
 mul-if1 : tie.Need-mul-if1 Inv-loop μ-loop
 mul-if1 c = search needs
 
--- src/plays.rt:28:37
 cast-if1-2 : tie.Need-cast-if1-2 Inv-loop μ-loop
-cast-if1-2 c = omega (arith, c .before .before .pre .some (c .before .loop .s) (c .loop-test .taken), c .before .before .pre .within (c .before .loop .s) (c .loop-test .taken), c .before .before .pre .few)
+cast-if1-2 c =
+    let pre = c .before .before .pre in
+    let loop = c .before .loop in
+    omega (arith, pre .some (loop .s) (c .loop-test .taken), pre .within (loop .s) (c .loop-test .taken), pre .few)
 
--- src/plays.rt:28:18
 add-if1 : tie.Need-add-if1 Inv-loop μ-loop
-add-if1 c = omega (arith, c .before .before .pre .some (c .before .loop .s) (c .loop-test .taken), c .before .before .pre .within (c .before .loop .s) (c .loop-test .taken), c .before .before .pre .few)
+add-if1 c =
+    let pre = c .before .before .pre in
+    let loop = c .before .loop in
+    omega (arith, pre .some (loop .s) (c .loop-test .taken), pre .within (loop .s) (c .loop-test .taken), pre .few)
 
--- src/plays.rt:28:12
 array-read-if1 : tie.Need-array-read-if1 Inv-loop μ-loop
-array-read-if1 c = omega (arith, c .before .before .pre .some (c .before .loop .s) (c .loop-test .taken), c .before .before .pre .within (c .before .loop .s) (c .loop-test .taken), c .before .before .pre .few)
+array-read-if1 c =
+    let pre = c .before .before .pre in
+    let loop = c .before .loop in
+    omega (arith, pre .some (loop .s) (c .loop-test .taken), pre .within (loop .s) (c .loop-test .taken), pre .few)
 
--- src/plays.rt:29:13
 returns : tie.Need-returns Inv-loop μ-loop
-returns c = search-stops (wrongs (c .before .before .before .args .t1) (c .before .before .before .args .t2)) (c .before .before .before .args .seats) (c .before .before .loop .s) (c .before .before .loop .inv) (c .before .loop-test .taken) (ap not (ne-eqb (getD (c .before .before .before .args .t2) (c .before .before .loop .s * 256 + (getD (c .before .before .before .args .t1) (c .before .before .loop .s) 0 - 1)) 0) 1 (c .if1 .taken)))
+returns c =
+    let a = c .before .before .before .args in
+    let loop = c .before .before .loop in
+    let loop-test = c .before .loop-test in
+    search-stops (wrongs (a .t1) (a .t2)) (a .seats) (loop .s) (loop .inv) (loop-test .taken) (ap not (ne-eqb (getD (a .t2) (loop .s * 256 + (getD (a .t1) (loop .s) 0 - 1)) 0) 1 (c .if1 .taken)))
 
--- src/plays.rt:31:9
 add-s : tie.Need-add-s Inv-loop μ-loop
 add-s c = search needs
 
--- src/plays.rt:26:5
 loop-less : tie.Need-loop-less Inv-loop μ-loop
 loop-less c = search needs
 
--- src/plays.rt:26:5
 loop-again : tie.Need-loop-again Inv-loop μ-loop
-loop-again c = search-goes-on (wrongs (c .before .before .before .args .t1) (c .before .before .before .args .t2)) (c .before .before .before .args .seats) (c .before .before .loop .s) (c .before .before .loop .inv) (c .before .loop-test .taken) (ap not (eq-eqb (getD (c .before .before .before .args .t2) (c .before .before .loop .s * 256 + (getD (c .before .before .before .args .t1) (c .before .before .loop .s) 0 - 1)) 0) 1 (c .if1 .left)))
+loop-again c =
+    let a = c .before .before .before .args in
+    let loop = c .before .before .loop in
+    let loop-test = c .before .loop-test in
+    search-goes-on (wrongs (a .t1) (a .t2)) (a .seats) (loop .s) (loop .inv) (loop-test .taken) (ap not (eq-eqb (getD (a .t2) (loop .s * 256 + (getD (a .t1) (loop .s) 0 - 1)) 0) 1 (c .if1 .left)))
 
--- src/plays.rt:21:1
 returns-2 : tie.Need-returns-2 Inv-loop μ-loop
-returns-2 c = search-ends (wrongs (c .before .before .args .t1) (c .before .before .args .t2)) (c .before .before .args .seats) (c .before .loop .s) (c .before .loop .inv) (c .loop-test .left)
+returns-2 c =
+    let a = c .before .before .args in
+    let loop = c .before .loop in
+    search-ends (wrongs (a .t1) (a .t2)) (a .seats) (loop .s) (loop .inv) (c .loop-test .left)
 
 pub first-illegal-spec : {M : Type 1} → statement M
 first-illegal-spec =

@@ -3,7 +3,6 @@ use Rattle.referee.proofs.Telling.{position-out, choices-out, room-out,
 use borrow.Author.Needs.{needs}
 use Rattle.referee.proofs.tells.model_fit.Statement.{statement}
 use Rattle.referee.proofs.tells.model_fit.Tie as tie
-use Rattle.referee.proofs.tells.model_fit.Reads as reads
 
 limits-of-requires : tie.Need-limits-of-requires
 limits-of-requires c κs = search needs
@@ -16,7 +15,10 @@ position-fits-requires c κs = search needs
 
 returns : tie.Need-returns
 returns c =
-    λ G ok e. position-out (c .before .before .before .before .before .args .found) (c .before .before .before .limits-of .result) (c .before .before .before .limits-of .ensures) (c .before .before .before .before .before .args .t2) (c .before .before .before .before .before .args .t3) (c .before .before .before .before .before .args .room .now) G ok e (c .before .position-fits .result) (c .before .position-fits .ensures) (c .if1 .taken)
+    let a = c .before .before .before .before .before .args in
+    let limits-of = c .before .before .before .limits-of in
+    let position-fits = c .before .position-fits in
+    λ G ok e. position-out (a .found) (limits-of .result) (limits-of .ensures) (a .t2) (a .t3) (a .room .now) G ok e (position-fits .result) (position-fits .ensures) (c .if1 .taken)
 
 slice-aggregate-choices-fit : tie.Need-slice-aggregate-choices-fit
 slice-aggregate-choices-fit c = search needs
@@ -26,28 +28,57 @@ choices-fit-requires c κs = search needs
 
 returns-2 : tie.Need-returns-2
 returns-2 c =
-    λ G ok e. choices-out (c .before .before .before .before .before .before .before .before .args .found) (c .before .before .before .before .before .before .limits-of .result) (c .before .before .before .before .before .before .limits-of .ensures) (c .before .before .before .before .before .before .before .before .args .t2) (c .before .before .before .before .before .before .before .before .args .t3) (c .before .before .before .before .before .before .before .before .args .room .now) G ok e (c .before .before .before .before .position-fits .result) (c .before .before .before .before .position-fits .ensures) (c .before .before .before .if1 .left) (c .before .choices-fit .result) (c .before .choices-fit .ensures) (c .if2 .taken)
+    let a = c .before .before .before .before .before .before .before .before .args in
+    let limits-of = c .before .before .before .before .before .before .limits-of in
+    let position-fits = c .before .before .before .before .position-fits in
+    let if1 = c .before .before .before .if1 in
+    let choices-fit = c .before .choices-fit in
+    λ G ok e. choices-out (a .found) (limits-of .result) (limits-of .ensures) (a .t2) (a .t3) (a .room .now) G ok e (position-fits .result) (position-fits .ensures) (if1 .left) (choices-fit .result) (choices-fit .ensures) (c .if2 .taken)
 
 cast-atoms : tie.Need-cast-atoms
 cast-atoms c = search needs
 
 returns-3 : tie.Need-returns-3
 returns-3 c =
-    λ G ok e. room-out (c .before .before .before .before .before .before .before .before .before .before .args .found) (c .before .before .before .before .before .before .before .before .limits-of .result) (c .before .before .before .before .before .before .before .before .limits-of .ensures) (c .before .before .before .before .before .before .before .before .before .before .args .t2) (c .before .before .before .before .before .before .before .before .before .before .args .t3) (c .before .before .before .before .before .before .before .before .before .before .args .room .now) G ok e (c .before .before .before .before .before .before .position-fits .result) (c .before .before .before .before .before .before .position-fits .ensures) (c .before .before .before .before .before .if1 .left) (c .before .before .before .choices-fit .result) (c .before .before .before .choices-fit .ensures) (c .before .before .if2 .left) (c .if3 .taken)
+    let a = c .before .before .before .before .before .before .before .before .before .before .args in
+    let limits-of = c .before .before .before .before .before .before .before .before .limits-of in
+    let position-fits = c .before .before .before .before .before .before .position-fits in
+    let if1 = c .before .before .before .before .before .if1 in
+    let choices-fit = c .before .before .before .choices-fit in
+    let if2 = c .before .before .if2 in
+    λ G ok e. room-out (a .found) (limits-of .result) (limits-of .ensures) (a .t2) (a .t3) (a .room .now) G ok e (position-fits .result) (position-fits .ensures) (if1 .left) (choices-fit .result) (choices-fit .ensures) (if2 .left) (c .if3 .taken)
 
 slice-aggregate-copy-flags : tie.Need-slice-aggregate-copy-flags
-slice-aggregate-copy-flags c = omega (arith, flags-1024 (c .before .before .before .before .before .before .before .before .before .before .before .before .pre))
+slice-aggregate-copy-flags c =
+    let pre = c .before .before .before .before .before .before .before .before .before .before .before .before .pre in
+    omega (arith, flags-1024 pre)
 
 copy-flags-requires : tie.Need-copy-flags-requires
 copy-flags-requires c κs =
-    (flags-long (c .before .before .before .before .before .before .before .before .before .before .before .before .before .args .found) (c .before .before .before .before .before .before .before .before .before .before .before .limits-of .result) (c .before .before .before .before .before .before .before .before .before .before .before .limits-of .ensures) (c .before .before .before .before .before .before .before .before .before .before .before .before .before .args .t2) (c .before .before .before .before .before .before .before .before .before .before .before .before .before .args .t3) (c .before .before .before .before .before .before .before .before .before .before .before .before .before .args .room .now) (c .before .before .before .before .before .before .before .before .before .before .before .before .before .pre .game) (c .before .before .before .before .before .before .before .before .before .before .before .before .before .pre .accepted) (c .before .before .before .before .before .before .before .before .before .before .before .before .before .pre .is) (c .before .before .before .before .before .before .before .before .before .position-fits .result) (c .before .before .before .before .before .before .before .before .before .position-fits .ensures) (c .before .before .before .before .before .before .before .before .if1 .left) (c .before .before .before .before .before .before .choices-fit .result) (c .before .before .before .before .before .before .choices-fit .ensures) (c .before .before .before .before .before .if2 .left), c .before .before .before .if3 .left)
+    let a = c .before .before .before .before .before .before .before .before .before .before .before .before .before .args in
+    let pre = c .before .before .before .before .before .before .before .before .before .before .before .before .before .pre in
+    let limits-of = c .before .before .before .before .before .before .before .before .before .before .before .limits-of in
+    let position-fits = c .before .before .before .before .before .before .before .before .before .position-fits in
+    let if1 = c .before .before .before .before .before .before .before .before .if1 in
+    let choices-fit = c .before .before .before .before .before .before .choices-fit in
+    let if2 = c .before .before .before .before .before .if2 in
+    let if3 = c .before .before .before .if3 in
+    (flags-long (a .found) (limits-of .result) (limits-of .ensures) (a .t2) (a .t3) (a .room .now) (pre .game) (pre .accepted) (pre .is) (position-fits .result) (position-fits .ensures) (if1 .left) (choices-fit .result) (choices-fit .ensures) (if2 .left), if3 .left)
 
 same-length : tie.Need-same-length
 same-length c = search needs
 
 returns-4 : tie.Need-returns-4
 returns-4 c =
-    λ G ok e. model-copied (c .before .before .before .before .before .before .before .before .before .before .before .before .before .before .before .before .args .found) (c .before .before .before .before .before .before .before .before .before .before .before .before .before .before .limits-of .result) (c .before .before .before .before .before .before .before .before .before .before .before .before .before .before .limits-of .ensures) (c .before .before .before .before .before .before .before .before .before .before .before .before .before .before .before .before .args .t2) (c .before .before .before .before .before .before .before .before .before .before .before .before .before .before .before .before .args .t3) (c .before .before .before .before .before .before .before .before .before .before .before .before .before .before .before .before .args .room .now) G ok e (c .before .before .before .before .before .before .before .before .before .before .before .before .position-fits .result) (c .before .before .before .before .before .before .before .before .before .before .before .before .position-fits .ensures) (c .before .before .before .before .before .before .before .before .before .before .before .if1 .left) (c .before .before .before .before .before .before .before .before .before .choices-fit .result) (c .before .before .before .before .before .before .before .before .before .choices-fit .ensures) (c .before .before .before .before .before .before .before .before .if2 .left) (c .before .before .before .before .before .before .if3 .left) _ (c .before .before .copy-flags .ensures)
+    let a = c .before .before .before .before .before .before .before .before .before .before .before .before .before .before .before .before .args in
+    let limits-of = c .before .before .before .before .before .before .before .before .before .before .before .before .before .before .limits-of in
+    let position-fits = c .before .before .before .before .before .before .before .before .before .before .before .before .position-fits in
+    let if1 = c .before .before .before .before .before .before .before .before .before .before .before .if1 in
+    let choices-fit = c .before .before .before .before .before .before .before .before .before .choices-fit in
+    let if2 = c .before .before .before .before .before .before .before .before .if2 in
+    let if3 = c .before .before .before .before .before .before .if3 in
+    let copy-flags = c .before .before .copy-flags in
+    λ G ok e. model-copied (a .found) (limits-of .result) (limits-of .ensures) (a .t2) (a .t3) (a .room .now) G ok e (position-fits .result) (position-fits .ensures) (if1 .left) (choices-fit .result) (choices-fit .ensures) (if2 .left) (if3 .left) _ (copy-flags .ensures)
 
 pub model-fit-spec : {M : Type 1} → statement M
 model-fit-spec =
