@@ -51,7 +51,7 @@ pub fn blank_session() -> Session
 }
 
 // Copies a part into a room, from a place on.
-fn copy(part: &[u8], room: &mut [u8], at: usize)
+pub fn copy(part: &[u8], room: &mut [u8], at: usize)
     requires { ⌜ at + length (now part) ≤ length (now room) ⌝ }
     ensures { λ _. ⌜ now (room .exit) ≡ sets (now (room .entry)) at (now (part .entry)) ⌝ }
 {
@@ -125,7 +125,8 @@ fn read_pair(bytes: &[u8], at: usize) -> u16
     joined(bytes[at], bytes[at + 1])
 }
 
-fn read_choices(bytes: &[u8], at: usize) -> [u16; 8]
+// Reads eight choices, two bytes each.
+pub fn read_choices(bytes: &[u8], at: usize) -> [u16; 8]
     requires { ⌜ at + 16 ≤ length (now bytes) ⌝ }
     ensures { λ r. ⌜ r ≡ fromPairs 8 (drop at (now (bytes .entry))) ⌝ }
 {

@@ -1,0 +1,1 @@
+-- Laws of the C functions: one for each return.
