@@ -42,20 +42,20 @@ unfoldable pub claimHosted : Verdict → Answer
 claimHosted v = let c : Claimed = claim v in said (c .refusal) (c .claim)
 
 -- the bytes are room for a record
-unfoldable pub openHosted : Verdict → List ℕ → Answer × List ℕ
+abbrev pub openHosted : Verdict → List ℕ → Answer × List ℕ
 openHosted v bytes = overRecord bytes bytes (λ σ. handedBack (openGame v) bytes)
 
-unfoldable pub offerHosted : Verdict → ℕ → ℕ → List ℕ → Answer × List ℕ
+abbrev pub offerHosted : Verdict → ℕ → ℕ → List ℕ → Answer × List ℕ
 offerHosted v s m bytes = overRecord bytes bytes (λ σ. handedBack (offer v σ s m) bytes)
 
-unfoldable pub playHosted : Verdict → List ℕ → Answer × List ℕ
+abbrev pub playHosted : Verdict → List ℕ → Answer × List ℕ
 playHosted v bytes = overRecord bytes bytes (λ σ. handedBack (play v σ) bytes)
 
 -- "The call also answers the length."
 abbrev pub sentSaid : Sent × List ℕ → Answer × List ℕ
 sentSaid a = (said (a .0 .refusal) (a .0 .length), a .1)
 
-unfoldable pub messageHosted : Verdict → List ℕ → ℕ → List ℕ → Answer × List ℕ
+abbrev pub messageHosted : Verdict → List ℕ → ℕ → List ℕ → Answer × List ℕ
 messageHosted v bytes z room = overRecord bytes room (λ σ. sentSaid (message v σ z room))
 
 -- ---- the calls whose promise is a relation: what is told is one that the call's promise allows

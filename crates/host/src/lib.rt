@@ -1,15 +1,15 @@
 // The calls as C functions over numbers and byte slices, for a host that is not written in Rattle; host/embalume.h declares them.
-mod bytes; // records, positions and choices in their byte form
+mod records; // records and positions in their byte form
 
-use bytes::hand_back;
-use bytes::position_of;
+use records::hand_back;
+use records::position_of;
 use gdl::Move;
 use gdl::Seat;
 use refusals::Refusal;
 use refusals::number_of;
 use refusals::place_of;
 use session::bytes::read_choices;
-use session::bytes::read_record;
+use session::bytes::session_of;
 ghost use mathlib.Core.Path.{_≡_};
 ghost use Rattle.rules.specs.Judged.{judge};
 ghost use Rattle.host.specs.Hosted.{said, wrongLength, CheckHosted, claimHosted, openHosted, offerHosted, playHosted, messageHosted, HiddenHosted, ModelHosted};
@@ -60,48 +60,45 @@ pub extern "C" fn embalume_claim(table: &[u8]) -> Answer
 }
 
 #[no_mangle]
-pub extern "C" fn embalume_open(table: &[u8], record: &mut [u8]) -> Answer
-    ensures { λ r. ⌜ (r, now (record .exit)) ≡ openHosted (judge (now (table .entry))) (now (record .entry)) ⌝ }
+pub extern "C" fn embalume_open(table: &[u8], bytes: &mut [u8]) -> Answer
+    ensures { λ r. ⌜ (r, now (bytes .exit)) ≡ openHosted (judge (now (table .entry))) (now (bytes .entry)) ⌝ }
 {
-    if record.len() != 2580 {
+    if bytes.len() != 2580 {
         return wrong_length();
     }
-    hand_back(referee::open_game(table), record)
+    hand_back(referee::open_game(table), bytes)
 }
 
 #[no_mangle]
-pub extern "C" fn embalume_offer(table: &[u8], record: &mut [u8], seat: u16, choice: u16) -> Answer
-    ensures { λ r. ⌜ (r, now (record .exit)) ≡ offerHosted (judge (now (table .entry))) seat choice (now (record .entry)) ⌝ }
+pub extern "C" fn embalume_offer(table: &[u8], bytes: &mut [u8], seat: u16, choice: u16) -> Answer
+    ensures { λ r. ⌜ (r, now (bytes .exit)) ≡ offerHosted (judge (now (table .entry))) seat choice (now (bytes .entry)) ⌝ }
 {
-    let read = read_record(record);
-    if !read.whole {
+    if bytes.len() != 2580 {
         return wrong_length();
     }
-    let session = read.session;
-    hand_back(referee::offer(table, session, Seat(seat), Move(choice)), record)
+    let session = session_of(bytes);
+    hand_back(referee::offer(table, session, Seat(seat), Move(choice)), bytes)
 }
 
 #[no_mangle]
-pub extern "C" fn embalume_play(table: &[u8], record: &mut [u8]) -> Answer
-    ensures { λ r. ⌜ (r, now (record .exit)) ≡ playHosted (judge (now (table .entry))) (now (record .entry)) ⌝ }
+pub extern "C" fn embalume_play(table: &[u8], bytes: &mut [u8]) -> Answer
+    ensures { λ r. ⌜ (r, now (bytes .exit)) ≡ playHosted (judge (now (table .entry))) (now (bytes .entry)) ⌝ }
 {
-    let read = read_record(record);
-    if !read.whole {
+    if bytes.len() != 2580 {
         return wrong_length();
     }
-    let session = read.session;
-    hand_back(referee::play(table, session), record)
+    let session = session_of(bytes);
+    hand_back(referee::play(table, session), bytes)
 }
 
 #[no_mangle]
-pub extern "C" fn embalume_message(table: &[u8], record: &[u8], seat: u16, room: &mut [u8]) -> Answer
-    ensures { λ r. ⌜ (r, now (room .exit)) ≡ messageHosted (judge (now (table .entry))) (now (record .entry)) seat (now (room .entry)) ⌝ }
+pub extern "C" fn embalume_message(table: &[u8], bytes: &[u8], seat: u16, room: &mut [u8]) -> Answer
+    ensures { λ r. ⌜ (r, now (room .exit)) ≡ messageHosted (judge (now (table .entry))) (now (bytes .entry)) seat (now (room .entry)) ⌝ }
 {
-    let read = read_record(record);
-    if !read.whole {
+    if bytes.len() != 2580 {
         return wrong_length();
     }
-    let session = read.session;
+    let session = session_of(bytes);
     let sent = referee::message(table, session, Seat(seat), room);
     let refusal = sent.refusal;
     said(refusal, sent.length as u64)

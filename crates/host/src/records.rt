@@ -11,9 +11,9 @@ ghost use lib.ListN.{length};
 ghost use Rattle.host.specs.Hosted.{handedBack};
 
 // "On a refusal .. the record is the one given": only a call that succeeds writes the record.
-pub fn hand_back(moved: Moved, record: &mut [u8]) -> Answer
-    requires { ⌜ length (now record) ≡ 2580 ⌝ }
-    ensures { λ r. ⌜ (r, now (record .exit)) ≡ handedBack moved (now (record .entry)) ⌝ }
+pub fn hand_back(moved: Moved, bytes: &mut [u8]) -> Answer
+    requires { ⌜ length (now bytes) ≡ 2580 ⌝ }
+    ensures { λ r. ⌜ (r, now (bytes .exit)) ≡ handedBack moved (now (bytes .entry)) ⌝ }
 {
     let refusal = moved.refusal;
     if number_of(refusal) != 0 {
@@ -21,7 +21,7 @@ pub fn hand_back(moved: Moved, record: &mut [u8]) -> Answer
     }
     let session = moved.session;
     let after = to_bytes(session);
-    copy(&after, record, 0);
+    copy(&after, bytes, 0);
     said(refusal, 0)
 }
 
