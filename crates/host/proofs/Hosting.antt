@@ -1,17 +1,16 @@
 -- Laws of the C functions: one for each return.
 use mathlib.Core.Path.{_≡_, refl, sym, ap, _∙_}
-use mathlib.Core.Bool.{true, false, cond}
 use mathlib.Core.List.{List, append-nil}
 use Prim.Native.Nat.{ℕ, _+_, _≤_}
 use native.Mathlib.Omega.{arith}
-use lib.Dec.{eqb}
-use lib.ListN.{length, drop}
+use lib.ListN.{length, length-replicate}
 use lib.Seq.{sets, sets-eq, drop-length}
 use borrow.Author.Tests.{eq-eqb, ne-eqb}
 use Rattle.refusals.specs.declared.Refusal.{Refusal}
 use Rattle.refusals.specs.Refusal.{numberOf, placeOf}
 use Rattle.rules.specs.Verdict.{Verdict}
 use Rattle.session.specs.declared.Session.{Session}
+use Rattle.session.specs.Shape.{blankSession}
 use Rattle.session.specs.Bytes.{sessionBytes, sessionOf, fromPairs}
 use Rattle.referee.specs.declared.Claimed.{Claimed}
 use Rattle.referee.specs.declared.Moved.{Moved}
@@ -32,8 +31,18 @@ claim-told v c a e f = f ∙ ap (λ (x : Claimed). said (x .refusal) (x .claim))
 
 -- ---- a room that is filled whole
 
-pub filled : (room part after : List ℕ) → length part ≡ length room → after ≡ sets room 0 part → after ≡ part
+filled : (room part after : List ℕ) → length part ≡ length room → after ≡ sets room 0 part → after ≡ part
 filled room part after e f = let p : 0 + length part ≡ length room = omega arith in f ∙ (sets-eq part room 0 (omega arith) ∙ rw (p, drop-length room) (append-nil part))
+
+module _ (σ : Session) (e : σ ≡ blankSession) (part : List ℕ) (h : length part ≡ 512) where
+  flags : length part ≡ length (σ .position)
+  flags = rw e (h ∙ sym (simp length-replicate))
+
+  pub position-fits : 0 + length part ≤ length (σ .position)
+  position-fits = omega (arith, flags)
+
+  pub position-filled : (after : List ℕ) → after ≡ sets (σ .position) 0 part → after ≡ part
+  position-filled after f = filled (σ .position) part after flags f
 
 -- ---- the record is handed back
 
@@ -87,4 +96,4 @@ module _ (v : Verdict) (pos ch room : List ℕ) (a : Answer) where
   modelled h g r flags chosen after ef ec e p =
       rw (eq-eqb (length pos) 512 h, eq-eqb (length ch) 16 g) (record { given = (r, after); promised = rw (ef, ec) at p; tells = rw e refl })
 
-pub ruleset hostings = (answer-same, claim-told, filled, refused-back, written-back, other-length, opened, offered, played, messaged, no-position, no-choices, modelled)
+pub ruleset hostings = (answer-same, claim-told, position-fits, position-filled, refused-back, written-back, other-length, opened, offered, played, messaged, no-position, no-choices, modelled)
