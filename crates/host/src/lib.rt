@@ -1,10 +1,10 @@
 // The calls as C functions over numbers and byte slices, for a host that is not written in Rattle; host/embalume.h declares them.
 mod records; // records and positions in their byte form
 
-use records::hand_back;
-use records::position_of;
 use gdl::Move;
 use gdl::Seat;
+use records::hand_back;
+use records::position_of;
 use refusals::Refusal;
 use refusals::number_of;
 use refusals::place_of;
@@ -77,7 +77,10 @@ pub extern "C" fn embalume_offer(table: &[u8], bytes: &mut [u8], seat: u16, choi
         return wrong_length();
     }
     let session = session_of(bytes);
-    hand_back(referee::offer(table, session, Seat(seat), Move(choice)), bytes)
+    hand_back(
+        referee::offer(table, session, Seat(seat), Move(choice)),
+        bytes,
+    )
 }
 
 #[no_mangle]
@@ -114,7 +117,12 @@ pub extern "C" fn embalume_hidden(table: &[u8], asking: u16, moving: u16, choice
 }
 
 #[no_mangle]
-pub extern "C" fn embalume_model(table: &[u8], position: &[u8], choices: &[u8], room: &mut [u8]) -> Answer
+pub extern "C" fn embalume_model(
+    table: &[u8],
+    position: &[u8],
+    choices: &[u8],
+    room: &mut [u8],
+) -> Answer
     ensures { λ r. ⌜ ModelHosted (judge (now (table .entry))) (now (position .entry)) (now (choices .entry)) (now (room .entry)) (r, now (room .exit)) ⌝ }
 {
     if position.len() != 512 {

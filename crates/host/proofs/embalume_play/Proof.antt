@@ -1,39 +1,27 @@
+-- The length decides first; then the play on the record that the bytes are is handed back.
 use Rattle.host.proofs.Hosting.{hostings}
 use borrow.Author.Needs.{needs}
 use Rattle.host.proofs.embalume_play.Statement.{statement}
 use Rattle.host.proofs.embalume_play.Tie as tie
-use Rattle.host.proofs.embalume_play.Reads as reads
-use Rattle.host.proofs.embalume_play.Lts as lts
-use Rattle.host.proofs.records.hand_back.Reads as hand-back-reads
-use Rattle.host.proofs.wrong_length.Reads as wrong-length-reads
-use Rattle.referee.proofs.play.Reads as play-reads
-use Rattle.session.proofs.bytes.session_of.Reads as session-of-reads
 
--- src/lib.rt:88:9
 wrong-length-requires : tie.Need-wrong-length-requires
 wrong-length-requires c κs = search needs
 
--- src/lib.rt:88:9
 returns : tie.Need-returns
 returns c = search (needs, hostings)
 
--- src/lib.rt:90:9
 session-of-requires : tie.Need-session-of-requires
 session-of-requires c κs = search needs
 
--- src/lib.rt:91:15
 play-requires : tie.Need-play-requires
 play-requires c κs = search needs
 
--- src/lib.rt:91:5
 hand-back-requires : tie.Need-hand-back-requires
 hand-back-requires c κs = search needs
 
--- src/lib.rt:83:1
 same-length : tie.Need-same-length
 same-length c = search needs
 
--- src/lib.rt:83:1
 returns-2 : tie.Need-returns-2
 returns-2 c = search (needs, hostings)
 
