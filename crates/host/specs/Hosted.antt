@@ -1,5 +1,4 @@
--- What a host is answered through C. The answers are those of the calls; said here are their numbers, the byte form of records, positions and
--- choices, and what is answered to bytes of another number.
+-- What a host is answered through C: the answers of the calls as numbers, over records, positions and choices in their byte form.
 use mathlib.Core.Path.{_≡_}
 use mathlib.Core.Bool.{_&&_, cond}
 use mathlib.Core.List.{List}
@@ -24,11 +23,11 @@ use Rattle.host.specs.declared.Answer.{Answer}
 abbrev pub said : Refusal → ℕ → Answer
 said r x = record { number = numberOf r; place = placeOf r; value = x }
 
--- bytes of another number than asked for: 255, which is no refusal of the page's; tested before the table, and nothing changes
+-- to a record, a position or choices of another length: 255, no refusal's number; tested before the table, and nothing changes
 abbrev pub wrongLength : Answer
 wrongLength = record { number = 255; place = 0; value = 0 }
 
--- a call over a record in its byte form of 2,580 bytes, and the lent bytes that stay as they are if it has another number
+-- a call over the record that 2,580 bytes are; where there are more or fewer, the lent room stays
 unfoldable pub overRecord : List ℕ → List ℕ → (Session → Answer × List ℕ) → Answer × List ℕ
 overRecord bytes room call = cond (eqb (length bytes) 2580) (call (sessionOf bytes)) (wrongLength, room)
 
@@ -38,10 +37,11 @@ handedBack m bytes = (said (m .refusal) 0, cond (isSuccess (m .refusal)) (sessio
 
 -- ---- the calls whose promise is an equation
 
+-- "The claim is handed out on request."
 unfoldable pub claimHosted : Verdict → Answer
 claimHosted v = let c : Claimed = claim v in said (c .refusal) (c .claim)
 
--- the bytes are room for a record
+-- open is lent room for a record; what was in it decides nothing
 abbrev pub openHosted : Verdict → List ℕ → Answer × List ℕ
 openHosted v bytes = overRecord bytes bytes (λ σ. handedBack (openGame v) bytes)
 
@@ -71,7 +71,7 @@ CheckHosted table = Told Refusal Answer (CheckPromise table) (λ r. said r 0)
 abbrev pub HiddenHosted : Verdict → ℕ → ℕ → ℕ → Answer → Type 0
 HiddenHosted v asking moving m = Told Looked Answer (HiddenPromise v asking moving m) (λ l. said (l .refusal) (l .hidden))
 
--- a position is 512 flags, and choices are 16 bytes: eight numbers of two, the lower first
+-- a position is 512 bytes, and choices are 16: eight numbers of two bytes, the lower first
 abbrev pub ModelHosted : Verdict → List ℕ → List ℕ → List ℕ → Answer × List ℕ → Type 0
 ModelHosted v pos ch room = cond (eqb (length pos) 512 && eqb (length ch) 16)
     (Told (Refusal × List ℕ) (Answer × List ℕ) (ModelPromise v pos (fromPairs 8 ch) room) (λ p. (said (p .0) 0, p .1)))

@@ -32,7 +32,7 @@ fn said(refusal: Refusal, value: u64) -> Answer
     }
 }
 
-// Bytes of another number than asked for: no refusal of the page's.
+// The answer to a record, a position or choices of another length.
 fn wrong_length() -> Answer
     ensures { λ r. ⌜ r ≡ wrongLength ⌝ }
 {
