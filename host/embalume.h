@@ -1,9 +1,11 @@
 /*
  * The calls of the referee for C: numbers and byte slices, the record in its byte form. Link target/staticlib/libhost.a (x86-64 Linux).
  *
- * A slice is two arguments, a pointer and its number of bytes. What the caller owes, since nothing in the library can test it: every pointer is not
- * null, also where the number is 0, and leads to that many bytes; a slice without const does not overlap another slice of the same call. The library
- * keeps no state, allocates nothing and calls nothing outside itself: calls may run at once on several threads, each with its own lent bytes.
+ * A slice is two arguments, a pointer and its number of bytes. What the caller owes, since the library cannot test it:
+ * - no pointer is null, also where the number is 0, and each leads to that many bytes;
+ * - a slice that is not const overlaps no other slice of the same call.
+ * For any such bytes and any numbers a call ends and answers as its promise says (crates/host/specs). It keeps no state, allocates nothing and calls
+ * nothing but memcpy and memset, so calls may run at once on several threads, each with its own lent bytes. A call takes up to 256 KiB of stack.
  */
 #ifndef EMBALUME_H
 #define EMBALUME_H
@@ -27,12 +29,12 @@ extern "C" {
 #define EMBALUME_MESSAGE_ROOM 1024
 #define EMBALUME_MODEL_ROOM 1024
 
-/* The number answered to a record, a position or choices of another length. It is tested before the table, and is no refusal of the rules. */
+/* The number answered to a record, a position or choices of another length than above. Lengths are tested before the table. */
 #define EMBALUME_WRONG_LENGTH 255
 
 /*
- * number: 0 for success, 1 to 22 as README.md lists them, or EMBALUME_WRONG_LENGTH. If it is not 0, the call has written nothing: a record and lent
- * room are as they were.
+ * number: 0 for success, 1 to 22 as README.md lists them, or EMBALUME_WRONG_LENGTH. If it is not 0 the call has written nothing: the record and
+ * lent room are as they were, also after a refused open.
  * place: where the refusal stands (a byte of the table, a clause, an atom or a seat), else 0.
  * value: the claim, the length of the message or the hidden answer; 0 on a refusal and for the other calls.
  */
@@ -51,7 +53,7 @@ embalume_answer embalume_claim(const uint8_t *table, size_t table_bytes);
 /* Writes a record at round 0. */
 embalume_answer embalume_open(const uint8_t *table, size_t table_bytes, uint8_t *record, size_t record_bytes);
 
-/* Stores a legal move for a seat in the record. */
+/* Stores a legal move for a seat in the record. A host that holds seats or moves in more than 16 bits tests them before. */
 embalume_answer embalume_offer(const uint8_t *table, size_t table_bytes, uint8_t *record, size_t record_bytes, uint16_t seat, uint16_t move);
 
 /* Moves the record on to the next round, once every seat has chosen. Its answer is the host's alone: 20 tells who has not chosen yet. */

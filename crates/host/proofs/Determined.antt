@@ -9,10 +9,9 @@ use Rattle.refusals.specs.declared.Refusal.{Refusal}
 use Rattle.rules.specs.Judged.{judge}
 use Rattle.session.specs.Bytes.{fromPairs}
 use Rattle.referee.specs.declared.Looked.{Looked}
-use Rattle.referee.specs.Promises.{CheckPromise, HiddenPromise, ModelPromise}
 use Rattle.referee.proofs.Determining.{by-equation, check-determined, model-determined, hidden-determined}
 use Rattle.host.specs.declared.Answer.{Answer}
-use Rattle.host.specs.Hosted.{said, wrongLength, Told, CheckHosted, claimHosted, openHosted, offerHosted, playHosted, messageHosted, HiddenHosted, ModelHosted}
+use Rattle.host.specs.Hosted.{Told, CheckHosted, claimHosted, openHosted, offerHosted, playHosted, messageHosted, HiddenHosted, ModelHosted}
 
 abbrev Determines : {W : Type 0} → (W → Type 0) → Type 0
 Determines {W = W} Promise = (a b : W) → Promise a → Promise b → a ≡ b
@@ -38,14 +37,14 @@ either P Q d e false = e
 
 pub determined : (s : List ℕ) → Determined s
 determined s = record {
-  of-check = told Refusal Answer (CheckPromise s) (λ r. said r 0) (check-determined s);
+  of-check = told Refusal Answer _ _ (check-determined s);
   of-claim = λ a b. by-equation;
   of-open = λ bytes a b. by-equation;
   of-offer = λ z m bytes a b. by-equation;
   of-play = λ bytes a b. by-equation;
   of-message = λ bytes z room a b. by-equation;
-  of-hidden = λ asking moving m. told Looked Answer (HiddenPromise (judge s) asking moving m) (λ l. said (l .refusal) (l .hidden)) (hidden-determined (judge s) asking moving m);
+  of-hidden = λ asking moving m. told Looked Answer _ _ (hidden-determined (judge s) asking moving m);
   of-model = λ pos ch room. either _ _
-      (told (Refusal × List ℕ) (Answer × List ℕ) (ModelPromise (judge s) pos (fromPairs 8 ch) room) (λ p. (said (p .0) 0, p .1)) (model-determined (judge s) pos (fromPairs 8 ch) room))
+      (told (Refusal × List ℕ) (Answer × List ℕ) _ _ (model-determined (judge s) pos (fromPairs 8 ch) room))
       (λ a b. by-equation) (eqb (length pos) 512 && eqb (length ch) 16);
 }
