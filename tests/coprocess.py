@@ -7,7 +7,7 @@ import subprocess
 from pathlib import Path
 
 ROOT = Path(__file__).resolve().parent.parent
-DEFAULT_REFEREE = ROOT / "target" / "bin" / "referee_cli"
+DEFAULT_REFEREE = ROOT / "tests" / "referee"
 
 
 class RefereeGone(Exception):
@@ -17,10 +17,16 @@ class RefereeGone(Exception):
 def add_referee_option(parser):
     parser.add_argument(
         "--referee", default=shlex.quote(str(DEFAULT_REFEREE)), metavar="COMMAND",
-        help="the referee's command line, such as 'qemu-x86_64 target/bin/referee_cli' "
-             "(default: target/bin/referee_cli)")
+        help="the referee's command line, such as 'python3 tests/second_cli.py' "
+             "(default: tests/referee, which builds referee_cli if need be)")
     parser.add_argument("--time-limit", type=float, default=60, metavar="SECONDS",
                         help="give up if one answer takes longer (default: 60)")
+
+
+def build():
+    """Building takes minutes, more than any answer may: so it is done first."""
+    if subprocess.run([str(DEFAULT_REFEREE), "build"]).returncode:
+        raise RefereeGone("the referee could not be built")
 
 
 class Referee:
@@ -35,6 +41,8 @@ class Referee:
             raise RefereeGone(f"cannot read the command {command!r}: {fault}") from None
         if not words:
             raise RefereeGone("the referee's command is empty")
+        if words == [str(DEFAULT_REFEREE)]:
+            build()
         try:
             self.process = subprocess.Popen(words, stdin=subprocess.PIPE,
                                             stdout=subprocess.PIPE, bufsize=0)

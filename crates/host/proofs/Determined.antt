@@ -8,8 +8,8 @@ use lib.ListN.{length}
 use Rattle.refusals.specs.declared.Refusal.{Refusal}
 use Rattle.rules.specs.Judged.{judge}
 use Rattle.session.specs.Bytes.{fromPairs}
-use Rattle.referee.specs.declared.Looked.{Looked}
-use Rattle.referee.proofs.Determining.{by-equation, check-determined, model-determined, hidden-determined}
+use Rattle.calls.specs.declared.Looked.{Looked}
+use Rattle.calls.proofs.Determining.{by-equation, check-determined, model-determined, hidden-determined}
 use Rattle.host.specs.declared.Answer.{Answer}
 use Rattle.host.specs.Hosted.{Told, CheckHosted, claimHosted, openHosted, offerHosted, playHosted, messageHosted, HiddenHosted, ModelHosted}
 

@@ -12,11 +12,11 @@ use Rattle.rules.specs.Verdict.{Verdict}
 use Rattle.session.specs.declared.Session.{Session}
 use Rattle.session.specs.Shape.{blankSession}
 use Rattle.session.specs.Bytes.{sessionBytes, sessionOf, fromPairs}
-use Rattle.referee.specs.declared.Claimed.{Claimed}
-use Rattle.referee.specs.declared.Moved.{Moved}
-use Rattle.referee.specs.declared.Sent.{Sent}
-use Rattle.referee.specs.Calls.{claim, openGame, offer, play, message}
-use Rattle.referee.specs.Promises.{ModelPromise}
+use Rattle.calls.specs.declared.Claimed.{Claimed}
+use Rattle.calls.specs.declared.Moved.{Moved}
+use Rattle.calls.specs.declared.Sent.{Sent}
+use Rattle.calls.specs.Calls.{claim, openGame, offer, play, message}
+use Rattle.calls.specs.Promises.{ModelPromise}
 use Rattle.host.specs.declared.Answer.{Answer}
 use Rattle.host.specs.Hosted.{said, wrongLength, overRecord, handedBack, claimHosted, openHosted, offerHosted, playHosted, sentSaid, messageHosted, Told, ModelHosted}
 

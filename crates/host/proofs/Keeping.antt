@@ -12,12 +12,12 @@ use Rattle.refusals.specs.Refusal.{numberOf}
 use Rattle.rules.specs.Judged.{judge}
 use Rattle.session.specs.declared.Session.{Session}
 use Rattle.session.specs.Bytes.{sessionOf, fromPairs}
-use Rattle.referee.specs.declared.Moved.{Moved}
-use Rattle.referee.specs.Calls.{openGame, offer, play, truth, message}
-use Rattle.referee.specs.Promises.{ModelPromise}
-use Rattle.referee.proofs.Determining.{model-determined}
-use Rattle.referee.proofs.Keeping as calls
-use Rattle.referee.proofs.Meeting.{model-meets}
+use Rattle.calls.specs.declared.Moved.{Moved}
+use Rattle.calls.specs.Calls.{openGame, offer, play, truth, message}
+use Rattle.calls.specs.Promises.{ModelPromise}
+use Rattle.calls.proofs.Determining.{model-determined}
+use Rattle.calls.proofs.Keeping as calls
+use Rattle.calls.proofs.Meeting.{model-meets}
 use Rattle.host.specs.declared.Answer.{Answer}
 use Rattle.host.specs.Hosted.{said, wrongLength, overRecord, handedBack, openHosted, offerHosted, playHosted, sentSaid, messageHosted, Told, ModelHosted}
 

@@ -10,13 +10,13 @@ use Rattle.refusals.specs.Refusal.{numberOf, placeOf}
 use Rattle.rules.specs.Verdict.{Verdict}
 use Rattle.session.specs.declared.Session.{Session}
 use Rattle.session.specs.Bytes.{sessionBytes, sessionOf, fromPairs}
-use Rattle.referee.specs.declared.Claimed.{Claimed}
-use Rattle.referee.specs.declared.Moved.{Moved}
-use Rattle.referee.specs.declared.Sent.{Sent}
-use Rattle.referee.specs.declared.Looked.{Looked}
-use Rattle.referee.specs.Answer.{isSuccess}
-use Rattle.referee.specs.Calls.{claim, openGame, offer, play, message}
-use Rattle.referee.specs.Promises.{CheckPromise, HiddenPromise, ModelPromise}
+use Rattle.calls.specs.declared.Claimed.{Claimed}
+use Rattle.calls.specs.declared.Moved.{Moved}
+use Rattle.calls.specs.declared.Sent.{Sent}
+use Rattle.calls.specs.declared.Looked.{Looked}
+use Rattle.calls.specs.Answer.{isSuccess}
+use Rattle.calls.specs.Calls.{claim, openGame, offer, play, message}
+use Rattle.calls.specs.Promises.{CheckPromise, HiddenPromise, ModelPromise}
 use Rattle.host.specs.declared.Answer.{Answer}
 
 -- "Numbers of refusal", and beside them the call's own number, x

@@ -1,7 +1,7 @@
 // Records and positions between a host's bytes and the calls.
 use crate::Answer;
 use crate::said;
-use referee::Moved;
+use calls::Moved;
 use refusals::number_of;
 use session::bytes::blank_session;
 use session::bytes::copy;

@@ -25,7 +25,7 @@ use Rattle.session.specs.declared.shape.Limits.{Limits}
 use Rattle.truth.specs.Marks.{marksOf}
 use Rattle.verdict.specs.Consulted.{refusedBy, foundIn, consulted, Fit}
 use Rattle.verdict.specs.declared.Consulted.{Consulted}
-use Rattle.referee.specs.Position.{still, over, legal, goal}
+use Rattle.calls.specs.Position.{still, over, legal, goal}
 use Rattle.referee.specs.Asked.{Asked}
 use Rattle.referee.proofs.Checking.{unfit-of-table}
 use Rattle.referee.proofs.Reading.{wide-mark, thin-mark}

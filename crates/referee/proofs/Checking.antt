@@ -23,8 +23,8 @@ use Rattle.table.specs.declared.atoms.Bound.{Bound}
 use Rattle.table.specs.declared.atoms.Bound.the-variants.{Absent, Below}
 use Rattle.rules.specs.Verdict.{Verdict, unfit, fit}
 use Rattle.rules.specs.Judged.{tableTests, ruledBy, judgedOf, judge}
-use Rattle.referee.specs.Calls.{check}
-use Rattle.referee.proofs.Rulings.{refused-by}
+use Rattle.calls.specs.Calls.{check}
+use Rattle.calls.proofs.Rulings.{refused-by}
 
 -- a refusal of a table
 abbrev pub OfTable : Refusal → Type 0

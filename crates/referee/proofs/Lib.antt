@@ -1,17 +1,3 @@
-pub mod Rulings
-pub mod Returns
-pub mod Passing
-pub mod Listing
-pub mod Meanings
-pub mod Publishing
-pub mod Fitting
-pub mod Keeping
-pub mod Claiming
-pub mod Shifting
-pub mod ClaimAlone
-pub mod Meeting
-pub mod Determining
-pub mod Shaping
 pub mod Checking
 pub mod Writing
 pub mod Reading

@@ -21,13 +21,13 @@ use Rattle.rules.proofs.Accepting.{accepted}
 use Rattle.session.specs.declared.shape.Limits.{Limits}
 use Rattle.verdict.specs.Consulted.{foundIn, traced, Fit}
 use Rattle.verdict.specs.declared.Consulted.{Consulted}
-use Rattle.referee.specs.declared.Looked.{Looked}
+use Rattle.calls.specs.declared.Looked.{Looked}
 use Rattle.referee.specs.Asked.{Traced}
-use Rattle.referee.specs.Calls.{hiddenFrom}
-use Rattle.referee.specs.Promises.{HiddenPromise}
+use Rattle.calls.specs.Calls.{hiddenFrom}
+use Rattle.calls.specs.Promises.{HiddenPromise}
 use Rattle.referee.proofs.Checking.{unfit-of-table}
-use Rattle.referee.proofs.Meeting.{hidden-meets}
-use Rattle.referee.proofs.Returns.{hidden-unfit, hidden-done}
+use Rattle.calls.proofs.Meeting.{hidden-meets}
+use Rattle.calls.proofs.Returns.{hidden-unfit, hidden-done}
 use Rattle.referee.proofs.Reading.{wide-mark}
 use Rattle.referee.proofs.Offering.{Headed, MarksIn}
 

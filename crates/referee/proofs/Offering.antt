@@ -17,14 +17,14 @@ use Rattle.session.specs.declared.shape.Limits.{Limits}
 use Rattle.truth.specs.Marks.{marksOf}
 use Rattle.verdict.specs.Consulted.{foundIn, consulted}
 use Rattle.verdict.specs.declared.Consulted.{Consulted}
-use Rattle.referee.specs.Position.{over, legal}
+use Rattle.calls.specs.Position.{over, legal}
 use Rattle.refusals.specs.Refusal.{numberOf}
 use Rattle.refusals.specs.declared.Refusal.{Refusal}
 use Rattle.rules.specs.Verdict.{unfit, fit}
 use Rattle.rules.specs.Judged.{judge}
-use Rattle.referee.specs.declared.Moved.{Moved}
-use Rattle.referee.specs.Calls.{chosen, offer}
-use Rattle.referee.proofs.Returns.{offer-unfit}
+use Rattle.calls.specs.declared.Moved.{Moved}
+use Rattle.calls.specs.Calls.{chosen, offer}
+use Rattle.calls.proofs.Returns.{offer-unfit}
 use Rattle.referee.proofs.Asking.{accepting, limits-are, over-mark, legal-mark}
 
 -- what the limits of a header are

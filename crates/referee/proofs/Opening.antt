@@ -29,13 +29,13 @@ use Rattle.truth.specs.Marks.{isAt, marksOf}
 use Rattle.verdict.specs.Consulted.{examined, foundIn, consulted}
 use Rattle.verdict.specs.declared.Examined.{Examined}
 use Rattle.verdict.specs.declared.Consulted.{Consulted}
-use Rattle.referee.specs.declared.Claimed.{Claimed}
-use Rattle.referee.specs.declared.Moved.{Moved}
-use Rattle.referee.specs.Position.{atomIn, still, opened}
-use Rattle.referee.specs.Calls.{check, claim, openGame}
-use Rattle.referee.specs.Promises.{CheckPromise}
-use Rattle.referee.proofs.Meeting.{check-meets}
-use Rattle.referee.proofs.Returns.{open-unfit, open-fit, check-unfit, check-fit, claim-unfit, claim-fit}
+use Rattle.calls.specs.declared.Claimed.{Claimed}
+use Rattle.calls.specs.declared.Moved.{Moved}
+use Rattle.calls.specs.Position.{atomIn, still, opened}
+use Rattle.calls.specs.Calls.{check, claim, openGame}
+use Rattle.calls.specs.Promises.{CheckPromise}
+use Rattle.calls.proofs.Meeting.{check-meets}
+use Rattle.calls.proofs.Returns.{open-unfit, open-fit, check-unfit, check-fit, claim-unfit, claim-fit}
 use Rattle.referee.proofs.Reading.{thin-at, fits, only-fitting}
 use Rattle.referee.proofs.Asking.{accepting, empty-is}
 use Rattle.referee.proofs.Offering.{MarksIn}

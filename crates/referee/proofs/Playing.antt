@@ -28,14 +28,14 @@ use Rattle.session.proofs.Shapes.{shaped-parts, choices-mean}
 use Rattle.truth.specs.Marks.{isAt, marksOf}
 use Rattle.verdict.specs.Consulted.{foundIn, consulted}
 use Rattle.verdict.specs.declared.Consulted.{Consulted}
-use Rattle.referee.specs.Position.{atomIn, moved, played}
-use Rattle.referee.specs.Calls.{unchosen, illegal, play}
+use Rattle.calls.specs.Position.{atomIn, moved, played}
+use Rattle.calls.specs.Calls.{unchosen, illegal, play}
 use Rattle.referee.specs.Asked.{Asked}
-use Rattle.referee.specs.declared.Moved.{Moved}
+use Rattle.calls.specs.declared.Moved.{Moved}
 use Rattle.referee.specs.Lowest.{LowestOr, Chosen, lacks, wrongs}
 use Rattle.referee.proofs.Reading.{wide-at, fits, only-fitting}
 use Rattle.referee.proofs.Asking.{limits-are, legal-mark, accepting}
-use Rattle.referee.proofs.Returns.{play-unfit}
+use Rattle.calls.proofs.Returns.{play-unfit}
 use Rattle.referee.proofs.Offering.{Headed, MarksIn}
 use Rattle.referee.proofs.Opening.{position-is}
 

@@ -19,7 +19,7 @@ use Rattle.gdl.proofs.Walks.{flags-same, flag-is}
 use Rattle.rules.specs.Limits.{Limits, firstEnd, secondEnd}
 use Rattle.session.specs.Shape.{fluentFits, perceptFits}
 use Rattle.truth.specs.Marks.{isAt, marksOf}
-use Rattle.referee.specs.Position.{atomIn}
+use Rattle.calls.specs.Position.{atomIn}
 
 -- ---- one atom
 

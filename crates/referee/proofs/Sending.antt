@@ -28,13 +28,13 @@ use Rattle.message.specs.Message as M
 use Rattle.message.specs.declared.Sheet.{Sheet}
 use Rattle.verdict.specs.Consulted.{foundIn, consulted}
 use Rattle.verdict.specs.declared.Consulted.{Consulted}
-use Rattle.referee.specs.declared.Sent.{Sent}
+use Rattle.calls.specs.declared.Sent.{Sent}
 use Rattle.referee.specs.Asked.{Asked}
-use Rattle.referee.specs.Position.{over, legal, goal}
-use Rattle.referee.specs.Message.{counted, perceptsOf, legalOf, goalsOf, messageNumbers}
-use Rattle.referee.specs.Calls.{message}
+use Rattle.calls.specs.Position.{over, legal, goal}
+use Rattle.calls.specs.Message.{counted, perceptsOf, legalOf, goalsOf, messageNumbers}
+use Rattle.calls.specs.Calls.{message}
 use Rattle.referee.proofs.Writing.{message-written}
-use Rattle.referee.proofs.Returns.{message-unfit}
+use Rattle.calls.proofs.Returns.{message-unfit}
 use Rattle.referee.proofs.Asking.{accepting, asked-of, limits-are, over-mark, legal-mark, goal-mark}
 use Rattle.referee.proofs.Offering.{Headed, MarksIn, seat-few}
 

@@ -24,12 +24,12 @@ use Rattle.session.specs.Shape.{flagFits, below, choiceWithin, positionShaped, 
 use Rattle.session.specs.declared.shape.Limits.{Limits}
 use Rattle.verdict.specs.Consulted.{foundIn, consulted}
 use Rattle.verdict.specs.declared.Consulted.{Consulted}
-use Rattle.referee.specs.Position.{moved}
+use Rattle.calls.specs.Position.{moved}
 use Rattle.referee.specs.Asked.{Asked}
-use Rattle.referee.specs.Calls.{truth}
-use Rattle.referee.specs.Promises.{ModelPromise}
-use Rattle.referee.proofs.Meeting.{model-meets}
-use Rattle.referee.proofs.Returns.{model-unfit, model-bad-shape, model-no-room, model-done}
+use Rattle.calls.specs.Calls.{truth}
+use Rattle.calls.specs.Promises.{ModelPromise}
+use Rattle.calls.proofs.Meeting.{model-meets}
+use Rattle.calls.proofs.Returns.{model-unfit, model-bad-shape, model-no-room, model-done}
 use Rattle.referee.proofs.Asking.{accepting, refusing}
 use Rattle.referee.proofs.Offering.{Headed}
 

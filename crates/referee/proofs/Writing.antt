@@ -16,11 +16,11 @@ use Rattle.rules.specs.Verdict.{fit}
 use Rattle.rules.specs.Accepted.{Accepted}
 use Rattle.session.specs.Shape.{shaped}
 use Rattle.session.specs.declared.Session.{Session}
-use Rattle.referee.specs.declared.Sent.{Sent}
-use Rattle.referee.specs.Message.{messageNumbers, messageBytes}
-use Rattle.referee.specs.Calls.{message}
-use Rattle.referee.proofs.Returns.{message-done}
-use Rattle.referee.proofs.Fitting.{message-fits}
+use Rattle.calls.specs.declared.Sent.{Sent}
+use Rattle.calls.specs.Message.{messageNumbers, messageBytes}
+use Rattle.calls.specs.Calls.{message}
+use Rattle.calls.proofs.Returns.{message-done}
+use Rattle.calls.proofs.Fitting.{message-fits}
 
 -- bytes from the start of a room on
 all-written : (ns room : List ℕ) → length (bytesOf ns) ≤ length room → written ns (0, room) ≡ (length (bytesOf ns), bytesOf ns ++ drop (length (bytesOf ns)) room)

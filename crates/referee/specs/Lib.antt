@@ -1,8 +1,2 @@
-pub mod Answer
-pub mod Position
-pub mod Message
-pub mod Calls
-pub mod Promises
-pub mod Published
 pub mod Asked
 pub mod Lowest

@@ -6,6 +6,10 @@ mod looks; // hidden, on an accepted table
 mod plays; // play, on an accepted table
 mod tells; // message and model, on an accepted table
 
+use calls::Claimed;
+use calls::Looked;
+use calls::Moved;
+use calls::Sent;
 use gdl::Move;
 use gdl::Seat;
 use refusals::Refusal;
@@ -14,31 +18,8 @@ use session::Session;
 use session::bytes::blank_session;
 ghost use mathlib.Core.Path.{_≡_};
 ghost use Rattle.rules.specs.Judged.{judge};
-ghost use Rattle.referee.specs.Calls.{claim, openGame, offer, play, message};
-ghost use Rattle.referee.specs.Promises.{CheckPromise, HiddenPromise, ModelPromise};
-
-pub struct Claimed {
-    pub refusal: Refusal,
-    pub claim: u16,
-}
-
-// What open, offer and play answer: the refusal, and the record that the session goes on with.
-pub struct Moved {
-    pub refusal: Refusal,
-    pub session: Session,
-}
-
-// What the message call answers beside the lent room.
-pub struct Sent {
-    pub refusal: Refusal,
-    pub length: usize,
-}
-
-// "(the call answers 1, else 0)"
-pub struct Looked {
-    pub refusal: Refusal,
-    pub hidden: u8,
-}
+ghost use Rattle.calls.specs.Calls.{claim, openGame, offer, play, message};
+ghost use Rattle.calls.specs.Promises.{CheckPromise, HiddenPromise, ModelPromise};
 
 // "check": the verdict on a table.
 pub fn check(table: &[u8]) -> Refusal

@@ -1,5 +1,5 @@
 // Hidden, on an accepted table.
-use crate::Looked;
+use calls::Looked;
 use crate::positions::limits_of;
 use gdl::Move;
 use gdl::Seat;
@@ -12,7 +12,7 @@ ghost use Rattle.gdl.specs.Computed.{reachOf};
 ghost use Rattle.rules.specs.Accepted.{Accepted};
 ghost use Rattle.rules.specs.Verdict.{fit};
 ghost use Rattle.verdict.specs.Consulted.{foundIn};
-ghost use Rattle.referee.specs.Calls.{hiddenFrom};
+ghost use Rattle.calls.specs.Calls.{hiddenFrom};
 ghost use Rattle.referee.specs.Asked.{Traced};
 
 // "hidden 15 (asking seat, then moving seat), 16". A does atom that is not in the table reaches nobody.

@@ -1,5 +1,5 @@
 // Offer, on an accepted table.
-use crate::Moved;
+use calls::Moved;
 use crate::positions::limits_of;
 use gdl::Move;
 use gdl::Seat;
@@ -15,7 +15,7 @@ ghost use Rattle.gdl.specs.Computed.{model};
 ghost use Rattle.rules.specs.Accepted.{Accepted};
 ghost use Rattle.rules.specs.Verdict.{fit};
 ghost use Rattle.verdict.specs.Consulted.{foundIn};
-ghost use Rattle.referee.specs.Calls.{offer};
+ghost use Rattle.calls.specs.Calls.{offer};
 ghost use Rattle.referee.specs.Asked.{Asked};
 
 // "offer 19, 15, 16, 17, 18", after 21.

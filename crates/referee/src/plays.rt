@@ -1,5 +1,5 @@
 // Play, on an accepted table.
-use crate::Moved;
+use calls::Moved;
 use crate::positions::first_marks;
 use crate::positions::limits_of;
 use crate::positions::no_choices;
@@ -15,7 +15,7 @@ ghost use Rattle.gdl.specs.Computed.{model};
 ghost use Rattle.rules.specs.Accepted.{Accepted};
 ghost use Rattle.rules.specs.Verdict.{fit};
 ghost use Rattle.verdict.specs.Consulted.{foundIn};
-ghost use Rattle.referee.specs.Calls.{play};
+ghost use Rattle.calls.specs.Calls.{play};
 ghost use Rattle.referee.specs.Asked.{Asked};
 ghost use Prim.Native.Nat.{_≤_};
 ghost use Rattle.referee.specs.Lowest.{LowestOr, Chosen, lacks, wrongs};

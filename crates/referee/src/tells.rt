@@ -1,5 +1,5 @@
 // Message and model, on an accepted table.
-use crate::Sent;
+use calls::Sent;
 use crate::positions::limits_of;
 use gdl::Seat;
 use message::Sheet;
@@ -21,7 +21,7 @@ ghost use Rattle.gdl.specs.Computed.{model};
 ghost use Rattle.rules.specs.Accepted.{Accepted};
 ghost use Rattle.rules.specs.Verdict.{fit};
 ghost use Rattle.verdict.specs.Consulted.{foundIn};
-ghost use Rattle.referee.specs.Calls.{truth, message};
+ghost use Rattle.calls.specs.Calls.{truth, message};
 ghost use Rattle.referee.specs.Asked.{Asked};
 
 // Copies the first n flags into the room.

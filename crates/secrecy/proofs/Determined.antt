@@ -4,12 +4,12 @@ use mathlib.Core.List.{List}
 use Prim.Native.Nat.{ℕ}
 use Rattle.rules.specs.Judged.{judge}
 use Rattle.session.specs.declared.Session.{Session}
-use Rattle.referee.specs.declared.Claimed.{Claimed}
-use Rattle.referee.specs.declared.Moved.{Moved}
-use Rattle.referee.specs.declared.Sent.{Sent}
-use Rattle.referee.specs.Calls.{claim, openGame, offer, play, message}
-use Rattle.referee.specs.Promises.{CheckPromise, ModelPromise, HiddenPromise}
-use Rattle.referee.proofs.Determining.{by-equation, check-determined, model-determined, hidden-determined}
+use Rattle.calls.specs.declared.Claimed.{Claimed}
+use Rattle.calls.specs.declared.Moved.{Moved}
+use Rattle.calls.specs.declared.Sent.{Sent}
+use Rattle.calls.specs.Calls.{claim, openGame, offer, play, message}
+use Rattle.calls.specs.Promises.{CheckPromise, ModelPromise, HiddenPromise}
+use Rattle.calls.proofs.Determining.{by-equation, check-determined, model-determined, hidden-determined}
 
 -- any two answers that a promise allows are equal
 abbrev pub Determines : {W : Type 0} → (W → Type 0) → Type 0

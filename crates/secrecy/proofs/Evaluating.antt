@@ -6,9 +6,9 @@ use Rattle.table.specs.Parse.{bounded}
 use Rattle.table.specs.Table.{players, sizes, header, firstBound, secondBound, field, atom, key, atomsFrom, literals, clause, clausesFrom, clauses, game, table}
 use Rattle.rules.specs.Judged.{judge}
 use Rattle.session.specs.Shape.{positionShaped, choicesShaped, perceptsShaped, shaped}
-use Rattle.referee.specs.Position.{still, moved, over, legal, goal, opened, stored, played}
-use Rattle.referee.specs.Message.{messageNumbers, messageBytes}
-use Rattle.referee.specs.Calls.{offerTests, playTests, messageTests, modelTests, hiddenTests, check, openGame, offer, play, truth, message, hiddenFrom}
+use Rattle.calls.specs.Position.{still, moved, over, legal, goal, opened, stored, played}
+use Rattle.calls.specs.Message.{messageNumbers, messageBytes}
+use Rattle.calls.specs.Calls.{offerTests, playTests, messageTests, modelTests, hiddenTests, check, openGame, offer, play, truth, message, hiddenFrom}
 use Rattle.secrecy.specs.Histories.{run, goesOn, rounds}
 
 -- the verdict on a table

@@ -10,10 +10,10 @@ use Rattle.refusals.specs.declared.Refusal.the-variants.{Success}
 use Rattle.gdl.specs.Game.{Game, roleKind, terminalKind, isAtom, atomAt}
 use Rattle.gdl.specs.Flags.{blank}
 use Rattle.rules.specs.Judged.{judge}
-use Rattle.referee.specs.declared.Looked.{Looked}
-use Rattle.referee.specs.Calls.{check, truth, message, hiddenFrom}
-use Rattle.referee.specs.Promises.{CheckPromise, ModelPromise, HiddenPromise}
-use Rattle.referee.proofs.Meeting.{check-meets, model-meets, hidden-meets}
+use Rattle.calls.specs.declared.Looked.{Looked}
+use Rattle.calls.specs.Calls.{check, truth, message, hiddenFrom}
+use Rattle.calls.specs.Promises.{CheckPromise, ModelPromise, HiddenPromise}
+use Rattle.calls.proofs.Meeting.{check-meets, model-meets, hidden-meets}
 use Rattle.secrecy.specs.Histories.{promised, run}
 use Rattle.secrecy.specs.Examples.{Endless, Example, checks, endless, models, reads, hides, Holds, EachHolds, smallest, examples}
 use Rattle.secrecy.proofs.Evaluating.{verdicts, answers}

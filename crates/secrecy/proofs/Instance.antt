@@ -9,7 +9,7 @@ use Rattle.gdl.specs.Game.{Game}
 use Rattle.gdl.specs.Reach.{Hidden}
 use Rattle.rules.specs.Verdict.{Verdict, unfit, fit}
 use Rattle.rules.specs.Judged.{judge}
-use Rattle.referee.proofs.Publishing.{demand-2}
+use Rattle.calls.proofs.Publishing.{demand-2}
 use Rattle.secrecy.specs.Histories.{Program, Keeps, promised, run, rounds, HiddenMove, AlikeRound, none-yet, one-more, Alike, SameMessage}
 use Rattle.secrecy.specs.Examples.{penny, both}
 use Rattle.secrecy.proofs.Evaluating.{verdicts, answers}

@@ -22,13 +22,13 @@ use Rattle.session.specs.Shape.{fluentFits, perceptFits, shaped}
 use Rattle.session.specs.declared.Session.{Session}
 use Rattle.gdl.proofs.Walks.{zeros}
 use Rattle.session.proofs.Shapes.{Shaped, shaped-is}
-use Rattle.referee.specs.declared.Moved.{Moved}
-use Rattle.referee.specs.Answer.{isSuccess, settle}
-use Rattle.referee.specs.Position.{atomIn, moved, over, legal, opened, stored, played}
-use Rattle.referee.specs.Calls.{chosen, offerTests, playTests, openGame, offer, play}
-use Rattle.referee.proofs.Rulings.{is-true, AllKept, Fails, refused-by, by-ruling}
-use Rattle.referee.proofs.Passing.{offer-kept, play-kept}
-use Rattle.referee.proofs.Shaping.{opened-shaped, stored-shaped, played-shaped}
+use Rattle.calls.specs.declared.Moved.{Moved}
+use Rattle.calls.specs.Answer.{isSuccess, settle}
+use Rattle.calls.specs.Position.{atomIn, moved, over, legal, opened, stored, played}
+use Rattle.calls.specs.Calls.{chosen, offerTests, playTests, openGame, offer, play}
+use Rattle.calls.proofs.Rulings.{is-true, AllKept, Fails, refused-by, by-ruling}
+use Rattle.calls.proofs.Passing.{offer-kept, play-kept}
+use Rattle.calls.proofs.Shaping.{opened-shaped, stored-shaped, played-shaped}
 use Rattle.secrecy.specs.Histories.{promised, offering, playing, History, opening, _▷_, run, goesOn, rounds, Tried, moveOf, current}
 
 -- a record with other choices

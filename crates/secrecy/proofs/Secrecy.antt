@@ -30,11 +30,11 @@ use Rattle.session.specs.Shape.{fluentFits, perceptFits, shaped}
 use Rattle.session.specs.declared.Session.{Session}
 use Rattle.gdl.proofs.Walks.{flag-same, those-same}
 use Rattle.session.proofs.Shapes.{Shaped, shaped-is}
-use Rattle.referee.specs.Answer.{settle}
-use Rattle.referee.specs.Position.{atomIn, still, moved, over, legal, goal, played}
-use Rattle.referee.specs.Message.{perceptsOf, legalOf, goalsOf, messageNumbers, messageBytes}
-use Rattle.referee.specs.Calls.{messageTests, message}
-use Rattle.referee.proofs.Rulings.{is-true}
+use Rattle.calls.specs.Answer.{settle}
+use Rattle.calls.specs.Position.{atomIn, still, moved, over, legal, goal, played}
+use Rattle.calls.specs.Message.{perceptsOf, legalOf, goalsOf, messageNumbers, messageBytes}
+use Rattle.calls.specs.Calls.{messageTests, message}
+use Rattle.calls.proofs.Rulings.{is-true}
 use Rattle.secrecy.specs.Histories.{Program, Keeps, promised, History, run, rounds, current, HiddenMove, AlikeRound, AlikeRounds, none-yet, one-more, Alike, SameMessage, Secret}
 use Rattle.secrecy.proofs.Records.{choosing, replay, ownTests, ownAnswer, explained-same, good}
 

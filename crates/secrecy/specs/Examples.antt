@@ -11,8 +11,8 @@ use Rattle.gdl.specs.Published.{t}
 use Rattle.gdl.specs.Flags.{blank}
 use Rattle.rules.specs.Verdict.{fit}
 use Rattle.rules.specs.Judged.{judge}
-use Rattle.referee.specs.Calls.{message}
-use Rattle.referee.specs.Promises.{CheckPromise, ModelPromise, HiddenPromise}
+use Rattle.calls.specs.Calls.{message}
+use Rattle.calls.specs.Promises.{CheckPromise, ModelPromise, HiddenPromise}
 use Rattle.secrecy.specs.Histories.{promised, offering, playing, History, opening, _▷_, run}
 
 -- accepted, with one seat, and over in no position

@@ -12,10 +12,10 @@ use Rattle.gdl.specs.Game.{Game}
 use Rattle.gdl.specs.Reach.{Hidden}
 use Rattle.rules.specs.Verdict.{Verdict}
 use Rattle.session.specs.declared.Session.{Session}
-use Rattle.referee.specs.declared.Moved.{Moved}
-use Rattle.referee.specs.declared.Sent.{Sent}
-use Rattle.referee.specs.Answer.{isSuccess}
-use Rattle.referee.specs.Calls.{openGame, offer, play, message}
+use Rattle.calls.specs.declared.Moved.{Moved}
+use Rattle.calls.specs.declared.Sent.{Sent}
+use Rattle.calls.specs.Answer.{isSuccess}
+use Rattle.calls.specs.Calls.{openGame, offer, play, message}
 
 -- ---- a program's calls on one table
 

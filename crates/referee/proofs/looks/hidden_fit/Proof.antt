@@ -1,7 +1,7 @@
 use native.Mathlib.Omega.{arith}
 use Rattle.gdl.specs.Computed.{reachOf}
 use Rattle.referee.proofs.Looking.{seat-out, seat-in, seat-small, move-out, move-small, is-seen, is-hidden, traced-fit}
-use Rattle.referee.proofs.Returns.{hidden-no-asking, hidden-no-moving, hidden-no-move}
+use Rattle.calls.proofs.Returns.{hidden-no-asking, hidden-no-moving, hidden-no-move}
 use borrow.Author.Needs.{needs}
 use Rattle.referee.proofs.looks.hidden_fit.Statement.{statement}
 use Rattle.referee.proofs.looks.hidden_fit.Tie as tie

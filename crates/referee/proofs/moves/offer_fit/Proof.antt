@@ -1,7 +1,7 @@
 use native.Mathlib.Omega.{arith}
 use Rattle.referee.proofs.Asking.{fit-of}
 use Rattle.referee.proofs.Offering.{misshapen, well-shaped, is-over, goes-on, no-seat, a-seat, seat-few, no-move, a-move, move-few, has-chosen, not-chosen, is-illegal, is-legal}
-use Rattle.referee.proofs.Returns.{offer-bad-shape, offer-over, offer-no-seat, offer-no-move, offer-chosen, offer-illegal, offer-stored}
+use Rattle.calls.proofs.Returns.{offer-bad-shape, offer-over, offer-no-seat, offer-no-move, offer-chosen, offer-illegal, offer-stored}
 use borrow.Author.Needs.{needs}
 use Rattle.referee.proofs.moves.offer_fit.Statement.{statement}
 use Rattle.referee.proofs.moves.offer_fit.Tie as tie

@@ -7,7 +7,7 @@ use Rattle.referee.proofs.Asking.{fit-of}
 use Rattle.referee.proofs.Offering.{misshapen, well-shaped, is-over, goes-on}
 use Rattle.referee.proofs.Sending.{round-fits}
 use Rattle.referee.proofs.Playing.{seats-few, all-chose, one-lacks, none-lacks, one-illegal, none-illegal, record-is}
-use Rattle.referee.proofs.Returns.{play-bad-shape, play-over, play-no-choice, play-illegal, play-last, play-done}
+use Rattle.calls.proofs.Returns.{play-bad-shape, play-over, play-no-choice, play-illegal, play-last, play-done}
 use borrow.Author.Needs.{needs}
 use Rattle.referee.proofs.plays.play_fit.Statement.{statement}
 use Rattle.referee.proofs.plays.play_fit.Tie as tie

@@ -4,7 +4,7 @@ use lib.ListN.{length}
 use borrow.Author.Tests.{lt-ltb}
 use Rattle.referee.proofs.Asking.{fit-of}
 use Rattle.referee.proofs.Offering.{misshapen, well-shaped, no-seat, a-seat}
-use Rattle.referee.proofs.Returns.{message-bad-shape, message-no-seat, message-no-room}
+use Rattle.calls.proofs.Returns.{message-bad-shape, message-no-seat, message-no-room}
 use Rattle.referee.proofs.Sending.{sheet-fits, round-fits, message-sent}
 use borrow.Author.Needs.{needs}
 use Rattle.referee.proofs.tells.message_fit.Statement.{statement}

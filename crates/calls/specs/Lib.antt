@@ -1,0 +1,6 @@
+pub mod Answer
+pub mod Position
+pub mod Message
+pub mod Calls
+pub mod Promises
+pub mod Published
