@@ -51,7 +51,7 @@ pub fn blank_session() -> Session
 }
 
 // Copies a part into a room, from a place on.
-fn copy(part: &[u8], room: &mut [u8], at: usize)
+pub fn copy(part: &[u8], room: &mut [u8], at: usize)
     requires { ⌜ at + length (now part) ≤ length (now room) ⌝ }
     ensures { λ _. ⌜ now (room .exit) ≡ sets (now (room .entry)) at (now (part .entry)) ⌝ }
 {
@@ -125,7 +125,7 @@ fn read_pair(bytes: &[u8], at: usize) -> u16
     joined(bytes[at], bytes[at + 1])
 }
 
-fn read_choices(bytes: &[u8], at: usize) -> [u16; 8]
+pub fn read_choices(bytes: &[u8], at: usize) -> [u16; 8]
     requires { ⌜ at + 16 ≤ length (now bytes) ⌝ }
     ensures { λ r. ⌜ r ≡ fromPairs 8 (drop at (now (bytes .entry))) ⌝ }
 {
@@ -146,7 +146,7 @@ fn read_round(bytes: &[u8], at: usize) -> u32
     read_pair(bytes, at) as u32 + 65536 * read_pair(bytes, at + 2) as u32
 }
 
-fn session_of(bytes: &[u8]) -> Session
+pub fn session_of(bytes: &[u8]) -> Session
     requires { ⌜ length (now bytes) ≡ 2580 ⌝ }
     ensures { λ r. ⌜ r ≡ sessionOf (now (bytes .entry)) ⌝ }
 {

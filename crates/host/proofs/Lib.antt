@@ -1,0 +1,4 @@
+pub mod Hosting
+pub mod Determined
+pub mod Keeping
+pub mod Apart

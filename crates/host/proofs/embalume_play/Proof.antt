@@ -1,0 +1,38 @@
+-- The length decides first; then the play on the record that the bytes are is handed back.
+use Rattle.host.proofs.Hosting.{hostings}
+use borrow.Author.Needs.{needs}
+use Rattle.host.proofs.embalume_play.Statement.{statement}
+use Rattle.host.proofs.embalume_play.Tie as tie
+
+wrong-length-requires : tie.Need-wrong-length-requires
+wrong-length-requires c κs = search needs
+
+returns : tie.Need-returns
+returns c = search (needs, hostings)
+
+session-of-requires : tie.Need-session-of-requires
+session-of-requires c κs = search needs
+
+play-requires : tie.Need-play-requires
+play-requires c κs = search needs
+
+hand-back-requires : tie.Need-hand-back-requires
+hand-back-requires c κs = search needs
+
+same-length : tie.Need-same-length
+same-length c = search needs
+
+returns-2 : tie.Need-returns-2
+returns-2 c = search (needs, hostings)
+
+pub embalume-play-spec : {M : Type 1} → statement M
+embalume-play-spec =
+    tie.close
+    (tie.spec
+    wrong-length-requires
+    returns
+    session-of-requires
+    play-requires
+    hand-back-requires
+    same-length
+    returns-2)
