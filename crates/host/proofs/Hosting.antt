@@ -18,7 +18,7 @@ use Rattle.calls.specs.declared.Sent.{Sent}
 use Rattle.calls.specs.Calls.{claim, openGame, offer, play, message}
 use Rattle.calls.specs.Promises.{ModelPromise}
 use Rattle.host.specs.declared.Answer.{Answer}
-use Rattle.host.specs.Hosted.{said, wrongLength, overRecord, handedBack, claimHosted, openHosted, offerHosted, playHosted, sentSaid, messageHosted, Told, ModelHosted}
+use Rattle.host.specs.Hosted.{said, wrongLength, overRecord, handedOut, handedBack, claimHosted, openHosted, offerHosted, playHosted, sentSaid, messageHosted, Told, ModelHosted}
 
 -- ---- an answer is its numbers
 
@@ -46,15 +46,19 @@ module _ (σ : Session) (e : σ ≡ blankSession) (part : List ℕ) (h : length 
 
 -- ---- the record is handed back
 
-module _ (m : Moved) (bytes : List ℕ) (a : Answer) (e : a ≡ said (m .refusal) 0) (n : ℕ) (ne : n ≡ numberOf (m .refusal)) where
-  pub refused-back : (n ≡ 0 → ⊥) → _≡_ {A = Answer × List ℕ} (a, bytes) (handedBack m bytes)
+module _ (m : Moved) (bytes : List ℕ) (n : ℕ) (ne : n ≡ numberOf (m .refusal)) where
+  pub refused-back : (a : Answer) → a ≡ said (m .refusal) 0 → (n ≡ 0 → ⊥) → _≡_ {A = Answer × List ℕ} (a, bytes) (handedBack m bytes)
   unfolding handedBack
-  refused-back h = rw (e, ne-eqb (numberOf (m .refusal)) 0 (λ q. h (ne ∙ q))) refl
+  refused-back a e h = rw (e, ne-eqb (numberOf (m .refusal)) 0 (λ q. h (ne ∙ q))) refl
 
-  pub written-back : n ≡ 0 → length bytes ≡ 2580 → (part after : List ℕ) → length part ≡ 2580 → part ≡ sessionBytes (m .session) → after ≡ sets bytes 0 part
-      → _≡_ {A = Answer × List ℕ} (a, after) (handedBack m bytes)
-  unfolding handedBack
-  written-back h size part after long f g = rw (e, eq-eqb (numberOf (m .refusal)) 0 (sym ne ∙ h), filled bytes part after (long ∙ sym size) g, f) refl
+  pub done-back : n ≡ 0 → (x : Answer × List ℕ) → x ≡ handedOut m → x ≡ handedBack m bytes
+  unfolding handedOut handedBack
+  done-back h x f = rw (eq-eqb (numberOf (m .refusal)) 0 (sym ne ∙ h)) f
+
+pub handed-out : (m : Moved) (bytes : List ℕ) (a : Answer) → a ≡ said (m .refusal) 0 → length bytes ≡ 2580 → (part after : List ℕ) → length part ≡ 2580
+    → part ≡ sessionBytes (m .session) → after ≡ sets bytes 0 part → _≡_ {A = Answer × List ℕ} (a, after) (handedOut m)
+unfolding handedOut
+handed-out m bytes a e size part after long f g = rw (e, filled bytes part after (long ∙ sym size) g, f) refl
 
 -- ---- a call over a record
 
@@ -67,10 +71,10 @@ module _ (bytes room : List ℕ) (call : Session → Answer × List ℕ) where
   unfolding overRecord
   right-length h = rw (eq-eqb (length bytes) 2580 h) refl
 
-module _ (v : Verdict) (bytes : List ℕ) (h : length bytes ≡ 2580) (x : Answer × List ℕ) (m : Moved) (e : x ≡ handedBack m bytes) where
-  pub opened : m ≡ openGame v → x ≡ openHosted v bytes
-  opened f = e ∙ (ap (λ (y : Moved). handedBack y bytes) f ∙ right-length bytes bytes (λ σ. handedBack (openGame v) bytes) h)
+pub opened : (v : Verdict) (bytes : List ℕ) → length bytes ≡ 2580 → (x : Answer × List ℕ) (m : Moved) → x ≡ handedOut m → m ≡ openGame v → x ≡ openHosted v bytes
+opened v bytes h x m e f = e ∙ (ap handedOut f ∙ right-length bytes bytes (λ σ. handedOut (openGame v)) h)
 
+module _ (v : Verdict) (bytes : List ℕ) (h : length bytes ≡ 2580) (x : Answer × List ℕ) (m : Moved) (e : x ≡ handedBack m bytes) where
   pub offered : (σ : Session) (s c : ℕ) → σ ≡ sessionOf bytes → m ≡ offer v σ s c → x ≡ offerHosted v s c bytes
   offered σ s c g f = e ∙ (ap (λ (y : Moved). handedBack y bytes) (f ∙ ap (λ (y : Session). offer v y s c) g) ∙ right-length bytes bytes (λ y. handedBack (offer v y s c) bytes) h)
 
@@ -96,4 +100,4 @@ module _ (v : Verdict) (pos ch room : List ℕ) (a : Answer) where
   modelled h g r flags chosen after ef ec e p =
       rw (eq-eqb (length pos) 512 h, eq-eqb (length ch) 16 g) (record { given = (r, after); promised = rw (ef, ec) at p; tells = rw e refl })
 
-pub ruleset hostings = (answer-same, claim-told, position-fits, position-filled, refused-back, written-back, other-length, opened, offered, played, messaged, no-position, no-choices, modelled)
+pub ruleset hostings = (answer-same, claim-told, position-fits, position-filled, refused-back, done-back, handed-out, other-length, opened, offered, played, messaged, no-position, no-choices, modelled)

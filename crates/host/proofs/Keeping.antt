@@ -1,4 +1,4 @@
--- A call that does not succeed writes nothing, neither the record nor lent room: `refused-keep`.
+-- A call that does not succeed writes nothing, neither the record nor lent room, and a refused open hands back a blank record: `refused-keep`.
 use mathlib.Core.Path.{_≡_, refl, ap, _∙_}
 use mathlib.Core.Logic.{_≢_}
 use mathlib.Core.Bool.{Bool, true, false, _&&_, cond}
@@ -11,7 +11,8 @@ use Rattle.refusals.specs.declared.Refusal.{Refusal}
 use Rattle.refusals.specs.Refusal.{numberOf}
 use Rattle.rules.specs.Judged.{judge}
 use Rattle.session.specs.declared.Session.{Session}
-use Rattle.session.specs.Bytes.{sessionOf, fromPairs}
+use Rattle.session.specs.Bytes.{sessionBytes, sessionOf, fromPairs}
+use Rattle.session.specs.Shape.{blankSession}
 use Rattle.calls.specs.declared.Moved.{Moved}
 use Rattle.calls.specs.Calls.{openGame, offer, play, truth, message}
 use Rattle.calls.specs.Promises.{ModelPromise}
@@ -19,7 +20,7 @@ use Rattle.calls.proofs.Determining.{model-determined}
 use Rattle.calls.proofs.Keeping as calls
 use Rattle.calls.proofs.Meeting.{model-meets}
 use Rattle.host.specs.declared.Answer.{Answer}
-use Rattle.host.specs.Hosted.{said, wrongLength, overRecord, handedBack, openHosted, offerHosted, playHosted, sentSaid, messageHosted, Told, ModelHosted}
+use Rattle.host.specs.Hosted.{said, wrongLength, overRecord, handedOut, handedBack, openHosted, offerHosted, playHosted, sentSaid, messageHosted, Told, ModelHosted}
 
 -- "On a refusal no byte of lent room changes and the record is the one given": if the number is not 0, the bytes are as before
 abbrev Keeps : List ℕ → Answer × List ℕ → Type 0
@@ -27,7 +28,8 @@ Keeps bytes a = a .0 .number ≢ 0 → a .1 ≡ bytes
 
 -- of each function that is lent bytes to write, on the bytes s of a table
 pub record Kept (s : List ℕ) : Type 0 where
-  pub of-open : (bytes : List ℕ) → Keeps bytes (openHosted (judge s) bytes)
+  -- "a refused open hands back a blank record"
+  pub of-open : (bytes : List ℕ) → openHosted (judge s) bytes .0 .number ≢ 0 → openHosted (judge s) bytes .1 ≡ cond (eqb (length bytes) 2580) (sessionBytes blankSession) bytes
   pub of-offer : (z m : ℕ) (bytes : List ℕ) → Keeps bytes (offerHosted (judge s) z m bytes)
   pub of-play : (bytes : List ℕ) → Keeps bytes (playHosted (judge s) bytes)
   pub of-message : (bytes : List ℕ) (z : ℕ) (room : List ℕ) → Keeps room (messageHosted (judge s) bytes z room)
@@ -39,6 +41,14 @@ over bytes room call k = go (eqb (length bytes) 2580)
   where
     go : (b : Bool) → Keeps room (cond b (call (sessionOf bytes)) (wrongLength, room))
     go true n = k n
+    go false n = refl
+
+blank : (s bytes : List ℕ) → openHosted (judge s) bytes .0 .number ≢ 0 → openHosted (judge s) bytes .1 ≡ cond (eqb (length bytes) 2580) (sessionBytes blankSession) bytes
+unfolding overRecord handedOut
+blank s bytes = go (eqb (length bytes) 2580)
+  where
+    go : (b : Bool) → cond b (handedOut (openGame (judge s))) (wrongLength, bytes) .0 .number ≢ 0 → cond b (handedOut (openGame (judge s))) (wrongLength, bytes) .1 ≡ cond b (sessionBytes blankSession) bytes
+    go true n = ap sessionBytes (calls.refused-keep (judge s) .of-open (λ q. n (ap numberOf q)))
     go false n = refl
 
 back : (m : Moved) (bytes : List ℕ) → Keeps bytes (handedBack m bytes)
@@ -58,7 +68,7 @@ modelled s pos ch room a false t n = ap (λ (x : Answer × List ℕ). x .1) t
 
 pub refused-keep : (s : List ℕ) → Kept s
 refused-keep s = record {
-  of-open = λ bytes. over bytes bytes _ (back (openGame (judge s)) bytes);
+  of-open = blank s;
   of-offer = λ z m bytes. over bytes bytes _ (back (offer (judge s) (sessionOf bytes) z m) bytes);
   of-play = λ bytes. over bytes bytes _ (back (play (judge s) (sessionOf bytes)) bytes);
   of-message = λ bytes z room. over bytes room _ (λ n. calls.refused-keep (judge s) .of-message (sessionOf bytes) z room (λ q. n (ap numberOf q)));

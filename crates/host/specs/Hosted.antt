@@ -31,6 +31,10 @@ wrongLength = record { number = 255; place = 0; value = 0 }
 unfoldable pub overRecord : List ℕ → List ℕ → (Session → Answer × List ℕ) → Answer × List ℕ
 overRecord bytes room call = cond (eqb (length bytes) 2580) (call (sessionOf bytes)) (wrongLength, room)
 
+-- the record that a call answers, refused or not
+unfoldable pub handedOut : Moved → Answer × List ℕ
+handedOut m = (said (m .refusal) 0, sessionBytes (m .session))
+
 -- "On a refusal no byte of lent room changes and the record is the one given"
 unfoldable pub handedBack : Moved → List ℕ → Answer × List ℕ
 handedBack m bytes = (said (m .refusal) 0, cond (isSuccess (m .refusal)) (sessionBytes (m .session)) bytes)
@@ -41,9 +45,9 @@ handedBack m bytes = (said (m .refusal) 0, cond (isSuccess (m .refusal)) (sessio
 unfoldable pub claimHosted : Verdict → Answer
 claimHosted v = let c : Claimed = claim v in said (c .refusal) (c .claim)
 
--- open is lent room for a record; what was in it decides nothing
+-- "a refused open hands back a blank record (round 0, nothing set or chosen)"; what the bytes were decides nothing
 abbrev pub openHosted : Verdict → List ℕ → Answer × List ℕ
-openHosted v bytes = overRecord bytes bytes (λ σ. handedBack (openGame v) bytes)
+openHosted v bytes = overRecord bytes bytes (λ σ. handedOut (openGame v))
 
 abbrev pub offerHosted : Verdict → ℕ → ℕ → List ℕ → Answer × List ℕ
 offerHosted v s m bytes = overRecord bytes bytes (λ σ. handedBack (offer v σ s m) bytes)

@@ -4,6 +4,7 @@ mod records; // records and positions in their byte form
 use gdl::Move;
 use gdl::Seat;
 use records::hand_back;
+use records::hand_out;
 use records::position_of;
 use refusals::Refusal;
 use refusals::number_of;
@@ -66,7 +67,7 @@ pub extern "C" fn embalume_open(table: &[u8], bytes: &mut [u8]) -> Answer
     if bytes.len() != 2580 {
         return wrong_length();
     }
-    hand_back(referee::open_game(table), bytes)
+    hand_out(referee::open_game(table), bytes)
 }
 
 #[no_mangle]

@@ -1,4 +1,4 @@
--- The length decides first; then the opened record is handed back.
+-- The length decides first; then the opened record, or a blank one, is handed out.
 use Rattle.host.proofs.Hosting.{hostings}
 use borrow.Author.Needs.{needs}
 use Rattle.host.proofs.embalume_open.Statement.{statement}
@@ -13,8 +13,8 @@ returns c = search (needs, hostings)
 open-game-requires : tie.Need-open-game-requires
 open-game-requires c κs = search needs
 
-hand-back-requires : tie.Need-hand-back-requires
-hand-back-requires c κs = search needs
+hand-out-requires : tie.Need-hand-out-requires
+hand-out-requires c κs = search needs
 
 same-length : tie.Need-same-length
 same-length c = search needs
@@ -29,6 +29,6 @@ embalume-open-spec =
     wrong-length-requires
     returns
     open-game-requires
-    hand-back-requires
+    hand-out-requires
     same-length
     returns-2)
