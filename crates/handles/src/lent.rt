@@ -9,6 +9,7 @@ ghost use Rattle.rules.specs.Judged.{judge};
 ghost use Rattle.calls.specs.Calls.{offer, play};
 ghost use Rattle.handles.specs.Moving.{leaves};
 
+// "Offer stores a legal move for a seat."
 pub fn offer(table: &[u8], session: &mut Session, seat: Seat, choice: Move) -> Refusal
     ensures { λ r. ⌜ (r, now (session .exit)) ≡ leaves (offer (judge (now (table .entry))) (now (session .entry)) (seat .0) (choice .0)) ⌝ }
 {
@@ -17,6 +18,7 @@ pub fn offer(table: &[u8], session: &mut Session, seat: Seat, choice: Move) -> R
     moved.refusal
 }
 
+// The next position, once every seat has chosen.
 pub fn play(table: &[u8], session: &mut Session) -> Refusal
     ensures { λ r. ⌜ (r, now (session .exit)) ≡ leaves (play (judge (now (table .entry))) (now (session .entry))) ⌝ }
 {
