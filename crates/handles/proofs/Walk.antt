@@ -1,4 +1,4 @@
--- What every walk by hand cites of the kit, named once; and `by-walk`, the last step of each: a walk of a function's code is its theorem.
+-- What every walk by hand shares: the names of the kit that it cites, the steps that stand in several of them, and `by-walk`, by which a walk of a function's code is its theorem.
 pub use mathlib.Core.Path.{_≡_, refl, ap, subst, sym}
 pub use Prim.Native.Nat.{ℕ, zero, suc, _<_, _^_}
 pub use mathlib.Core.List.{List, [], _∷_}

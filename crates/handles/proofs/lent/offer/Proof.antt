@@ -1,4 +1,4 @@
--- `offer` moves the lent record on: a walk of its code. The record is copied out and passed to the call by value, and the record of its answer is stored back.
+-- `offer` moves the lent record on, by a walk of its code: the record is copied out and passed to the call by value, and the record of its answer is stored back.
 use Rattle.handles.proofs.Walk.{_≡_, refl, ap, ℕ, List, [], _∷_, URA, fullShare, named, Val, vptr, SProp, ent, emp, via, fst∗, id⊢, GName, Lft, Share, ftrue, flft, fobs, fbor, fat, Model, Heap, WpFn, GhostRules, Running, givenOf, Given, Item, ‵, _⊛_, ⋆, _$_, _∵_, !, qed, by, move, fjoin, suffices, frame, rewrite, done, whole, sub, look-in, look, look-raw, store-raw, init, stop, hop, fld, from, load, and-then, no-more, land, of-opd, assigns, returns, enter, alloc1, alloc0, params1, pass1, pass0, free0, Body, owns, Is, mem, u8, RefT, MutRef, now, ptr-vals, mut-tells, slice-vals, shr-slice-tells, shr-slice-lawful, plain, only, owned, nothing, onEntry, cited, says, Stays, stay-ref, stay-none, stay-none-slice, walkOf, goes-none, goes-ref, goes-none-slice, ends-at, yes, C, Λ, frames, by-walk, asks, release, table-val, Table, TableOwn, token}
 use denote.Struct.Laws as LL
 use denote.Enum.Laws as EL

@@ -1,4 +1,4 @@
--- `clause_start` reads two numbers through a reader of its own: a walk of its code. The reader lies in a local, is lent to `next` twice, and is asked where it stands.
+-- `clause_start` reads two numbers, by a walk of its code: a reader in a local is lent to `next` twice, and asked where it stands.
 use Rattle.handles.proofs.Walk.{_≡_, refl, ap, subst, ℕ, _<_, _^_, List, [], _∷_, URA, fullShare, Holds, named, erased, w64, tyInt, Val, WT, hasTy, vint, SProp, ent, emp, via, fst∗, id⊢, Lft, Share, fat, Model, Heap, WpFn, GhostRules, Running, givenOf, Given, ‵, _⊛_, ⋆, _$_, _∵_, !, qed, by, move, drop, use1, split, join, fsplit, fjoin, suffices, frame, rewrite, done, agg, addr, store, look, init, stop, from, load, and-then, no-more, land, of-opd, assigns, returns, enter, alloc1, alloc0, params1, pass1, pass0, free0, owns, Is, uint-vals, uint-tells, uint-makes, uint-lawful, u8, usize, RefT, now, slice-vals, shr-slice-tells, shr-slice-lawful, shr-slice-copy, plain, namedLft, only, owned, nothing, Triple, onEntry, cited, says, Stays, stay-none, stay-none-slice, walkOf, goes-none, goes-none-slice, ends-at, yes, C, Λ, frames, by-walk, asks, release, Promised, table-val, Table, TableOwn, token}
 use denote.Struct.Laws as LL
 use denote.Enum.Laws as EL

@@ -1,5 +1,4 @@
--- `next` reads at the reader's offset and moves it on: a walk of its code. The borrow is opened, the table and the offset are copied out and passed to `step`,
--- the place that `step` answers is stored in the reader, and the borrow is closed.
+-- `next` reads at the reader's offset and moves it on, by a walk of its code: the table and the offset are passed to `step`, and the place that it answers is stored.
 use Rattle.handles.proofs.Walk.{_≡_, refl, ap, ℕ, _<_, _^_, List, [], _∷_, URA, fullShare, named, erased, w64, Val, vint, vptr, SProp, ent, emp, via, fst∗, id⊢, Fml, GName, Lft, Share, ftrue, flft, fobs, fbor, fat, Model, Heap, WpFn, sem, AllOutlive, GhostRules, Running, givenOf, Given, Item, step, ‵, _⊛_, ⋆, given, _$_, _∵_, !, qed, by, move, keep, drop, use1, split, join, learn, fsplit, fsplit3, fjoin, fjoin3, feqI, suffices, frame, rewrite, done, whole, sub, look-in, store-in, look, init, stop, hop, fld, from, load, and-then, no-more, land, of-opd, assigns, returns, enter, alloc1, alloc0, params1, pass1, pass0, free0, Body, owns, Is, mem, cellAt, uint-makes, usize, RefT, MutRef, now, ptr-vals, mut-tells, Slot, plain, namedLft, only, closes, owned, nothing, Declared, Values, all-own, own-open, own-put, onEntry, cited, says, Stays, stay-ref, walkOf, goes-ref, ends-at, C, Λ, frames, by-walk, asks, release, unlocks, table-val, token}
 use denote.Struct.Laws as LL
 use denote.Enum.Laws as EL

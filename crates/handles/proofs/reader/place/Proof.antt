@@ -1,4 +1,4 @@
--- `place` answers the reader's offset: a walk of its code. The number is read from the struct, which is seen at exit as it was passed.
+-- `place` answers the reader's offset, by a walk of its code: the number is read from the struct, which is seen at exit as it was passed.
 use Rattle.handles.proofs.Walk.{refl, _<_, _^_, [], _∷_, URA, w64, Val, vint, SProp, ent, emp, via, fst∗, Lft, Share, ftrue, flft, Model, Heap, WpFn, Lfts, GhostRules, Running, givenOf, Given, ‵, _⊛_, _$_, _∵_, !, qed, by, suffices, frame, done, whole, sub, look-in, look, init, stop, fld, from, load, of-opd, assigns, returns, enter, alloc1, alloc0, params1, pass1, pass0, free0, RattleType, owns, Is, uint-makes, usize, namedLft, owned, onEntry, says, Stays, stay-none, walkOf, goes-none, ends-at, yes, C, Λ, by-walk, release}
 use denote.Struct.Laws as LL
 use Rattle.handles.specs.declared.reader.Reader.{Reader}

@@ -1,5 +1,4 @@
--- `start` makes a reader of the table and the offset passed: a walk of its code. A lent slice may be copied, so that what it owns is had twice: once for the
--- table at exit, and once inside the reader.
+-- `start` makes a reader of the table and the place passed, by a walk of its code: what a lent table owns is had twice, once for the table at exit and once inside the reader.
 use Rattle.handles.proofs.Walk.{refl, ℕ, _<_, _^_, List, [], _∷_, URA, named, w64, Val, vint, SProp, ent, emp, via, fst∗, Lft, Share, Model, Heap, WpFn, GhostRules, Running, givenOf, Given, ‵, raw, _⊛_, _$_, _∵_, !, qed, by, move, use1, split, fsplit, fjoin, suffices, frame, agg, look, init, stop, from, load, and-then, no-more, assigns, returns, enter, alloc1, alloc0, params1, pass1, pass0, free0, owns, Is, uint-vals, uint-tells, uint-makes, u8, usize, RefT, NamedLft, slice-vals, shr-slice-tells, shr-slice-lawful, shr-slice-copy, plain, namedLft, owned, nothing, own-shut, onEntry, says, Stays, stay-none, stay-none-slice, walkOf, goes-none, goes-none-slice, ends-at, yes, C, Λ, by-walk, release, table-val, Table, TableOwn, token}
 use Rattle.handles.specs.Reading.{readerAt}
 use Rattle.handles.proofs.reader.Reader as T
