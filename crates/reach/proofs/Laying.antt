@@ -10,6 +10,7 @@ use Rattle.gdl.specs.Game.{Atom, atomOf, Clause, Game, trueKind, nextKind, init
 use Rattle.gdl.specs.Graph.{itself}
 use Rattle.gdl.specs.Layout.{codeOver}
 use Rattle.gdl.proofs.Tests.{eq→eqb, and-left, and-right, and-both, or-left, or-right, or-cases, each-cons}
+use Rattle.gdl.proofs.Layouts.{at-member}
 use Rattle.gdl.proofs.Linking.{Leads, toBody, toNext, isOnward}
 use Rattle.edges.specs.Graph.{Stands, Has, Drawn}
 use Rattle.edges.proofs.Drawing.{clauses-drawn, clauses-graph}
@@ -26,11 +27,6 @@ noAtom = record { kind = 0; first = 0; second = 0 }
 some-bound : (C : List Clause) → (n : ℕ) × ((c : Clause) → List·Memᴰ c C → c .head < n)
 some-bound [] = (0, λ c m. absurd (List·Memᴰ·not-nil m))
 some-bound (d ∷ C) = let (n, f) = some-bound C in (suc (d .head + n), each-cons (λ (c : Clause). c .head < suc (d .head + n)) d C (omega arith) (λ c m. omega (arith, f c m)))
-
-member : {A : Type 0} (l : List A) (p : ℕ) (d : A) → p < length l → List·Memᴰ (getD l p d) l
-member [] p d lt = absurd (omega arith)
-member (a ∷ l) zero d lt = List·Memᴰ·head refl
-member (a ∷ l) (suc p) d lt = List·Memᴰ·tail (member l p d (omega arith))
 
 module _ {G : Game} {kinds firsts literals owners : List ℕ} (laid : Laid G kinds firsts literals owners) where
   -- ---- atoms
@@ -103,7 +99,7 @@ module _ (kinds firsts literals owners : List ℕ) (w : Ready kinds firsts liter
     fluents = record {
       columns = ready-columns;
       low = λ f p t. subst (λ (x : ℕ). x < 512) (sym (laid-first (w .laid) p) ∙ t .fluent)
-          (w .small .fluentsIn (atomAt (w .game) p) (member (w .game .atoms) p noAtom (within t)) (sym (laid-kind (w .laid) p) ∙ t .isTrue));
+          (w .small .fluentsIn (atomAt (w .game) p) (at-member (w .game .atoms) p noAtom (within t)) (sym (laid-kind (w .laid) p) ∙ t .isTrue));
       one = λ f p q t u. w .oneTrue p q (within t) (within u) (sym (laid-kind (w .laid) p) ∙ t .isTrue) (sym (laid-kind (w .laid) q) ∙ u .isTrue)
           (sym (laid-first (w .laid) p) ∙ t .fluent ∙ sym (u .fluent) ∙ laid-first (w .laid) q);
     };

@@ -1,111 +1,131 @@
--- A table is never refused with success.
-use Prim.Native.Nat.{ℕ, zero, suc, _+_, _-_, _*_}
-use native.Mathlib.Omega.{arith}
-use mathlib.Core.Bool.{Bool, true, false}
-use mathlib.Core.Path.{_≡_, refl}
+-- A table that cannot be read is refused with one of the table's own numbers, 1 to 13.
+use mathlib.Core.Path.{_≡_, subst}
+use mathlib.Core.Bool.{Bool, true, false, _&&_}
 use mathlib.Core.List.{List}
-use lib.Dec.{ltb, leb}
+use Prim.Native.Nat.{ℕ, zero, suc, _+_, _-_, _*_}
+use lib.Dec.{T, ltb, leb}
 use lib.ListN.{length}
 use Rattle.numbers.specs.Number.{numberAt}
 use Rattle.numbers.specs.declared.Number.{Number}
 use Rattle.numbers.specs.declared.Number.the-variants.{Read, Cut, Long, Large}
 use Rattle.numbers.proofs.Reading.{by-test}
+use Rattle.refusals.specs.Refusal.{numberOf}
 use Rattle.refusals.specs.declared.Refusal.{Refusal}
-use Rattle.refusals.specs.declared.Refusal.the-variants.{Success, InputEnds, NotANumber, OutOfRange, NotAbove, BytesAfter, TableTooLong}
-use Rattle.gdl.specs.Game.{Atom, Clause, Game}
-use Rattle.table.specs.Parse.{Parse, ok, fault, after, inRange, bounded, refuse_if_}
+use Rattle.refusals.specs.declared.Refusal.the-variants.{Success, OutOfRange, NotAbove, BytesAfter, TableTooLong}
+use Rattle.table.specs.Parse.{Parse, ok, fault, after, refuse_if_, inRange, bounded}
 use Rattle.table.specs.Table.{players, sizes, header, firstBound, secondBound, field, atom, key, atomsFrom, literals, clause, clausesFrom, clauses, game, table}
 use Rattle.table.specs.declared.header.Header.{Header}
 use Rattle.table.specs.declared.atoms.Bound.{Bound}
 use Rattle.table.specs.declared.atoms.Bound.the-variants.{Absent, Below}
 
-abbrev pub Faulty : {A : Type 0} → Parse A → Type 0
-Faulty (ok a n) = Unit {0}
-Faulty (fault f) = f ≡ Success → ⊥
+-- a refusal of a table
+abbrev pub OfTable : Refusal → Type 0
+OfTable r = T (leb 1 (numberOf r) && leb (numberOf r) 13)
 
-then : {A B : Type 0} (p : Parse A) (k : A → ℕ → Parse B) → Faulty p → ((a : A) (n : ℕ) → Faulty (k a n)) → Faulty (after p k)
-then (ok a n) k h f = f a n
-then (fault r) k h f = h
+pub not-success : (r : Refusal) → OfTable r → r ≡ Success → ⊥
+not-success r h e = subst OfTable e h
 
-range : (lo end at : ℕ) (x : Number) → Faulty (inRange lo end at x)
-range lo end at (Read v n) = by-test Faulty (ltb v lo) (λ _ e. no e) (λ _. by-test Faulty (leb end v) (λ _ e. no e) (λ _. tt))
-  where
-    no : OutOfRange at ≡ Success → ⊥
-    no e = let z : _≡_ {A = ℕ} 0 1 = cc in omega arith
-range lo end at Cut = λ e. let z : _≡_ {A = ℕ} 0 1 = cc in omega arith
-range lo end at Long = λ e. let z : _≡_ {A = ℕ} 0 1 = cc in omega arith
-range lo end at Large = λ e. let z : _≡_ {A = ℕ} 0 1 = cc in omega arith
+abbrev pub Faults : {A : Type 0} → Parse A → Type 0
+Faults (ok a n) = Unit {0}
+Faults (fault f) = OfTable f
 
-module _ (s : List ℕ) where
-  num : (lo end at : ℕ) → Faulty (bounded lo end s at)
-  unfolding bounded
-  num lo end at = range lo end at (numberAt s at)
+faults-after : {A B : Type 0} (p : Parse A) (k : A → ℕ → Parse B) → Faults p → ((a : A) (n : ℕ) → Faults (k a n)) → Faults (after p k)
+faults-after (ok a n) k h f = f a n
+faults-after (fault g) k h f = h
 
-  test : (f : Refusal) → (f ≡ Success → ⊥) → (t : Bool) (at : ℕ) → Faulty ((refuse f if t) s at)
-  test f n true at = n
-  test f n false at = tt
+in-range : (lo end at : ℕ) (x : Number) → Faults (inRange lo end at x)
+in-range lo end at (Read v n) =
+    by-test Faults (ltb v lo) (λ _. tt) λ l.
+    by-test Faults (leb end v) (λ _. tt) λ u. tt
+in-range lo end at Cut = tt
+in-range lo end at Long = tt
+in-range lo end at Large = tt
 
-  header-faulty : (at : ℕ) → Faulty (header s at)
-  unfolding header players sizes
-  header-faulty at =
-      then (players s at) _ (then (bounded 1 2 s at) _ (num 1 2 at) λ v n1. then (bounded 0 65536 s n1) _ (num 0 65536 n1) λ c n2.
-      then (bounded 1 9 s n2) _ (num 1 9 n2) λ r n3. then (bounded 0 (r + 1) s n3) _ (num 0 (r + 1) n3) λ h n4. tt) λ p m.
-      then (sizes s m) _ (then (bounded 0 513 s m) _ (num 0 513 m) λ f n1. then (bounded 1 257 s n1) _ (num 1 257 n1) λ v n2.
-      then (bounded 0 257 s n2) _ (num 0 257 n2) λ q n3. then (bounded 1 1025 s n3) _ (num 1 1025 n3) λ a n4. tt) λ z k. tt
+bounded-faults : (lo end : ℕ) (s : List ℕ) (at : ℕ) → Faults (bounded lo end s at)
+unfolding bounded
+bounded-faults lo end s at = in-range lo end at (numberAt s at)
 
-  field-faulty : (b : Bound) (at : ℕ) → Faulty (field b s at)
-  unfolding field
-  field-faulty Absent at = tt
-  field-faulty (Below n) at = num 0 n at
+test-faults : (f : Refusal) (b : Bool) (s : List ℕ) (at : ℕ) → OfTable f → Faults ((refuse f if b) s at)
+test-faults f true s at h = h
+test-faults f false s at h = tt
 
-  atom-faulty : (h : Header) (at : ℕ) → Faulty (atom h s at)
-  unfolding atom
-  atom-faulty h at =
-      then (bounded 0 10 s at) _ (num 0 10 at) λ k n1.
-      then (field (firstBound h k) s n1) _ (field-faulty (firstBound h k) n1) λ x n2.
-      then (field (secondBound h k) s n2) _ (field-faulty (secondBound h k) n2) λ y n3. tt
+players-faults : (s : List ℕ) (at : ℕ) → Faults (players s at)
+unfolding players
+players-faults s at =
+    faults-after (bounded 1 2 s at) _ (bounded-faults 1 2 s at) λ version n1.
+    faults-after (bounded 0 65536 s n1) _ (bounded-faults 0 65536 s n1) λ claim n2.
+    faults-after (bounded 1 9 s n2) _ (bounded-faults 1 9 s n2) λ seats n3.
+    faults-after (bounded 0 (seats + 1) s n3) _ (bounded-faults 0 (seats + 1) s n3) λ chance n4. tt
 
-  atoms-faulty : (h : Header) (n least at : ℕ) → Faulty (atomsFrom h n least s at)
-  unfolding atomsFrom
-  atoms-faulty h zero least at = tt
-  atoms-faulty h (suc n) least at =
-      then (atom h s at) _ (atom-faulty h at) λ a m.
-      then ((refuse (NotAbove at) if (ltb (key a) least)) s m) _ (test (NotAbove at) (λ e. let z : _≡_ {A = ℕ} 0 1 = cc in omega arith) (ltb (key a) least) m) λ _ k.
-      then (atomsFrom h n (key a + 1) s k) _ (atoms-faulty h n (key a + 1) k) λ xs j. tt
+sizes-faults : (s : List ℕ) (at : ℕ) → Faults (sizes s at)
+unfolding sizes
+sizes-faults s at =
+    faults-after (bounded 0 513 s at) _ (bounded-faults 0 513 s at) λ fluents n1.
+    faults-after (bounded 1 257 s n1) _ (bounded-faults 1 257 s n1) λ moves n2.
+    faults-after (bounded 0 257 s n2) _ (bounded-faults 0 257 s n2) λ percepts n3.
+    faults-after (bounded 1 1025 s n3) _ (bounded-faults 1 1025 s n3) λ atoms n4. tt
 
-  literals-faulty : (n end at : ℕ) → Faulty (literals n end s at)
-  unfolding literals
-  literals-faulty zero end at = tt
-  literals-faulty (suc n) end at =
-      then (bounded 0 end s at) _ (num 0 end at) λ x m.
-      then (literals n end s m) _ (literals-faulty n end m) λ xs k. tt
+header-faults : (s : List ℕ) (at : ℕ) → Faults (header s at)
+unfolding header
+header-faults s at = faults-after (players s at) _ (players-faults s at) λ p n. faults-after (sizes s n) _ (sizes-faults s n) λ z m. tt
 
-  clause-faulty : (A room at : ℕ) → Faulty (clause A room s at)
-  unfolding clause
-  clause-faulty A room at =
-      then (bounded 0 A s at) _ (num 0 A at) λ h n1.
-      then (bounded 0 65 s n1) _ (num 0 65 n1) λ c n2.
-      then ((refuse (OutOfRange n1) if (ltb room c)) s n2) _ (test (OutOfRange n1) (λ e. let z : _≡_ {A = ℕ} 0 1 = cc in omega arith) (ltb room c) n2) λ _ n3.
-      then (literals c (2 * A) s n3) _ (literals-faulty c (2 * A) n3) λ b n4. tt
+field-faults : (b : Bound) (s : List ℕ) (at : ℕ) → Faults (field b s at)
+unfolding field
+field-faults Absent s at = tt
+field-faults (Below n) s at = bounded-faults 0 n s at
 
-  clauses-faulty : (n A room at : ℕ) → Faulty (clausesFrom n A room s at)
-  unfolding clausesFrom
-  clauses-faulty zero A room at = tt
-  clauses-faulty (suc n) A room at =
-      then (clause A room s at) _ (clause-faulty A room at) λ c m.
-      then (clausesFrom n A (room - length (c .body)) s m) _ (clauses-faulty n A (room - length (c .body)) m) λ cs k. tt
+atom-faults : (h : Header) (s : List ℕ) (at : ℕ) → Faults (atom h s at)
+unfolding atom
+atom-faults h s at =
+    faults-after (bounded 0 10 s at) _ (bounded-faults 0 10 s at) λ kind n1.
+    faults-after (field (firstBound h kind) s n1) _ (field-faults (firstBound h kind) s n1) λ first n2.
+    faults-after (field (secondBound h kind) s n2) _ (field-faults (secondBound h kind) s n2) λ second n3. tt
 
-  rest-faulty : (A at : ℕ) → Faulty (clauses A s at)
-  unfolding clauses
-  rest-faulty A at =
-      then (bounded 0 2049 s at) _ (num 0 2049 at) λ C n1.
-      then (clausesFrom C A 8192 s n1) _ (clauses-faulty C A 8192 n1) λ cs n2.
-      then ((refuse (BytesAfter n2) if (ltb n2 (length s))) s n2) _ (test (BytesAfter n2) (λ e. let z : _≡_ {A = ℕ} 0 1 = cc in omega arith) (ltb n2 (length s)) n2) λ _ n3. tt
+atoms-faults : (h : Header) (n least : ℕ) (s : List ℕ) (at : ℕ) → Faults (atomsFrom h n least s at)
+unfolding atomsFrom
+atoms-faults h zero least s at = tt
+atoms-faults h (suc n) least s at =
+    faults-after (atom h s at) _ (atom-faults h s at) λ a n1.
+    faults-after ((refuse (NotAbove at) if (ltb (key a) least)) s n1) _ (test-faults (NotAbove at) (ltb (key a) least) s n1 tt) λ _ n2.
+    faults-after (atomsFrom h n (key a + 1) s n2) _ (atoms-faults h n (key a + 1) s n2) λ rest n3. tt
 
-  pub table-faulty : Faulty (table s 0)
-  unfolding table game
-  table-faulty =
-      then ((refuse TableTooLong if (ltb 65535 (length s))) s 0) _ (test TableTooLong (λ e. let z : _≡_ {A = ℕ} 0 1 = cc in omega arith) (ltb 65535 (length s)) 0) λ _ n0.
-      then (header s n0) _ (header-faulty n0) λ h n1.
-      then (atomsFrom h (h .sizes .atoms) 0 s n1) _ (atoms-faulty h (h .sizes .atoms) 0 n1) λ xs n2.
-      then (clauses (h .sizes .atoms) s n2) _ (rest-faulty (h .sizes .atoms) n2) λ cs n3. tt
+literals-faults : (n end : ℕ) (s : List ℕ) (at : ℕ) → Faults (literals n end s at)
+unfolding literals
+literals-faults zero end s at = tt
+literals-faults (suc n) end s at =
+    faults-after (bounded 0 end s at) _ (bounded-faults 0 end s at) λ x n1.
+    faults-after (literals n end s n1) _ (literals-faults n end s n1) λ xs n2. tt
+
+clause-faults : (A room : ℕ) (s : List ℕ) (at : ℕ) → Faults (clause A room s at)
+unfolding clause
+clause-faults A room s at =
+    faults-after (bounded 0 A s at) _ (bounded-faults 0 A s at) λ head n1.
+    faults-after (bounded 0 65 s n1) _ (bounded-faults 0 65 s n1) λ count n2.
+    faults-after ((refuse (OutOfRange n1) if (ltb room count)) s n2) _ (test-faults (OutOfRange n1) (ltb room count) s n2 tt) λ _ n3.
+    faults-after (literals count (2 * A) s n3) _ (literals-faults count (2 * A) s n3) λ body n4. tt
+
+clauses-from-faults : (n A room : ℕ) (s : List ℕ) (at : ℕ) → Faults (clausesFrom n A room s at)
+unfolding clausesFrom
+clauses-from-faults zero A room s at = tt
+clauses-from-faults (suc n) A room s at =
+    faults-after (clause A room s at) _ (clause-faults A room s at) λ c n1.
+    faults-after (clausesFrom n A (room - length (c .body)) s n1) _ (clauses-from-faults n A (room - length (c .body)) s n1) λ cs n2. tt
+
+clauses-faults : (A : ℕ) (s : List ℕ) (at : ℕ) → Faults (clauses A s at)
+unfolding clauses
+clauses-faults A s at =
+    faults-after (bounded 0 2049 s at) _ (bounded-faults 0 2049 s at) λ C n1.
+    faults-after (clausesFrom C A 8192 s n1) _ (clauses-from-faults C A 8192 s n1) λ cs n2.
+    faults-after ((refuse (BytesAfter n2) if (ltb n2 (length s))) s n2) _ (test-faults (BytesAfter n2) (ltb n2 (length s)) s n2 tt) λ _ n3. tt
+
+game-faults : (h : Header) (s : List ℕ) (at : ℕ) → Faults (game h s at)
+unfolding game
+game-faults h s at =
+    faults-after (atomsFrom h (h .sizes .atoms) 0 s at) _ (atoms-faults h (h .sizes .atoms) 0 s at) λ atoms n1.
+    faults-after (clauses (h .sizes .atoms) s n1) _ (clauses-faults (h .sizes .atoms) s n1) λ cs n2. tt
+
+pub table-faults : (s : List ℕ) → Faults (table s 0)
+unfolding table
+table-faults s =
+    faults-after ((refuse TableTooLong if (ltb 65535 (length s))) s 0) _ (test-faults TableTooLong (ltb 65535 (length s)) s 0 tt) λ _ n.
+    faults-after (header s n) _ (header-faults s n) λ h n1. game-faults h s n1

@@ -24,7 +24,7 @@ use Rattle.table.specs.Parse.{Parse, ok, fault}
 use Rattle.table.specs.Table.{table}
 use Rattle.table.specs.Says.{blankHeader, headerOf, decoded}
 use Rattle.table.specs.declared.tables.Table.{Table}
-use Rattle.table.proofs.Faults.{Faulty, table-faulty}
+use Rattle.table.proofs.Faults.{Faults, table-faults, not-success}
 use Rattle.rules.specs.Rules.{Ruled}
 use Rattle.rules.specs.Verdict.{Verdict, unfit, fit}
 use Rattle.rules.specs.Judged.{judge}
@@ -81,11 +81,11 @@ pub record Read (s : List ℕ) (t : Table) : Type 0 where
 
 module _ (s : List ℕ) (t : Table) (e : t ≡ decoded (table s 0)) where
   pub was-read : numberOf (t .refusal) ≡ 0 → Read s t
-  was-read z = go (table s 0) refl (table-faulty s)
+  was-read z = go (table s 0) refl (table-faults s)
     where
-      go : (p : Parse Game) → table s 0 ≡ p → Faulty p → Read s t
+      go : (p : Parse Game) → table s 0 ≡ p → Faults p → Read s t
       go (ok G n) q f = record { game = G; end = n; read = q; is = rw q at e }
-      go (fault r) q f = absurd (f (sym (ap (λ (x : Table). x .refusal) (rw q at e)) ∙ zero-success (t .refusal) z))
+      go (fault r) q f = absurd (not-success r f (sym (ap (λ (x : Table). x .refusal) (rw q at e)) ∙ zero-success (t .refusal) z))
 
   pub unread-consulted : (numberOf (t .refusal) ≡ 0 → ⊥) → (y : Consulted) (pos ch : List ℕ) → y ≡ refusedBy (t .refusal) → y ≡ consulted (judge s) pos ch
   unread-consulted n y pos ch h = go (table s 0) refl

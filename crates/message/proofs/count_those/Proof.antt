@@ -1,9 +1,9 @@
+-- Up to flag i the count is that of the flags passed.
 use Rattle.message.proofs.Lists.{Counting, countings}
 use Prim.Native.Nat.{_-_}
 use borrow.Author.Needs.{needs}
 use Rattle.message.proofs.count_those.Statement.{statement}
 use Rattle.message.proofs.count_those.Tie as tie
-use Rattle.message.proofs.count_those.Reads as reads
 
 abbrev Inv-loop : tie.InvT-loop
 Inv-loop flags start n many₀ i₀ many i = Counting flags start n many i

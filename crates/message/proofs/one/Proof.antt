@@ -1,3 +1,4 @@
+-- A flag counts 1 or 0.
 use Rattle.message.proofs.Lists.{flag-cases, is-none}
 use borrow.Author.Needs.{needs}
 use Rattle.message.proofs.one.Statement.{statement}

@@ -1,8 +1,8 @@
+-- The count, and then what was counted.
 use Rattle.message.proofs.Lists.{puts-counted}
 use borrow.Author.Needs.{needs}
 use Rattle.message.proofs.put_counted.Statement.{statement}
 use Rattle.message.proofs.put_counted.Tie as tie
-use Rattle.message.proofs.put_counted.Reads as reads
 
 count-those-requires : tie.Need-count-those-requires
 count-those-requires c κs = search needs

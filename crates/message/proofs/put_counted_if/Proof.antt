@@ -1,8 +1,8 @@
+-- What is not told is a count of 0.
 use Rattle.message.proofs.Lists.{tellings}
 use borrow.Author.Needs.{needs}
 use Rattle.message.proofs.put_counted_if.Statement.{statement}
 use Rattle.message.proofs.put_counted_if.Tie as tie
-use Rattle.message.proofs.put_counted_if.Reads as reads
 
 put-counted-requires : tie.Need-put-counted-requires
 put-counted-requires c κs = search needs

@@ -1,8 +1,8 @@
+-- Three numbers, one after another: the seat, the round, the end.
 use Rattle.message.proofs.Lists.{heads}
 use borrow.Author.Needs.{needs}
 use Rattle.message.proofs.put_head.Statement.{statement}
 use Rattle.message.proofs.put_head.Tie as tie
-use Rattle.message.proofs.put_head.Reads as reads
 
 write-number-requires : tie.Need-write-number-requires
 write-number-requires c κs = search needs

@@ -1,8 +1,8 @@
+-- A flag that is set writes its number, and another nothing.
 use Rattle.message.proofs.Lists.{flag-cases}
 use borrow.Author.Needs.{needs}
 use Rattle.message.proofs.put_if.Statement.{statement}
 use Rattle.message.proofs.put_if.Tie as tie
-use Rattle.message.proofs.put_if.Reads as reads
 
 write-number-requires : tie.Need-write-number-requires
 write-number-requires c κs = search needs

@@ -1,9 +1,9 @@
+-- Up to flag i the numbers of the flags passed are written.
 use Rattle.message.proofs.Lists.{Putting, puttings}
 use Prim.Native.Nat.{_-_}
 use borrow.Author.Needs.{needs}
 use Rattle.message.proofs.put_those.Statement.{statement}
 use Rattle.message.proofs.put_those.Tie as tie
-use Rattle.message.proofs.put_those.Reads as reads
 
 abbrev Inv-loop : tie.InvT-loop
 Inv-loop room₀ at flags start n next₀ i₀ room next i = Putting flags start n at room₀ room next i

@@ -1,8 +1,8 @@
+-- The head and three counted lists make the message.
 use Rattle.message.proofs.Lists.{message-written}
 use borrow.Author.Needs.{needs}
 use Rattle.message.proofs.write_message.Statement.{statement}
 use Rattle.message.proofs.write_message.Tie as tie
-use Rattle.message.proofs.write_message.Reads as reads
 
 cast-start : tie.Need-cast-start
 cast-start c = search needs

@@ -1,9 +1,9 @@
+-- The run at a place, by its length.
 use borrow.Author.Needs.{needs}
 use native.Mathlib.Omega.{arith}
 use Rattle.numbers.proofs.Reading.{places, one-within, two-within, three-within}
 use Rattle.numbers.proofs.read_number.Statement.{statement}
 use Rattle.numbers.proofs.read_number.Tie as tie
-use Rattle.numbers.proofs.read_number.Reads as reads
 
 run-at-requires : tie.Need-run-at-requires
 run-at-requires c κs = search needs

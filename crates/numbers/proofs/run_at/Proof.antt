@@ -1,8 +1,8 @@
+-- How far the top bits carry the run: one, two or three bytes, or a cut.
 use borrow.Author.Needs.{needs}
 use Rattle.numbers.proofs.Reading.{runs}
 use Rattle.numbers.proofs.run_at.Statement.{statement}
 use Rattle.numbers.proofs.run_at.Tie as tie
-use Rattle.numbers.proofs.run_at.Reads as reads
 
 returns : tie.Need-returns
 returns c = search (needs, runs)

@@ -1,3 +1,4 @@
+-- A run of three bytes, its last not 0 and the value not too large.
 use borrow.Author.Needs.{needs}
 use Rattle.numbers.proofs.Reading.{values}
 use Rattle.numbers.proofs.three.Statement.{statement}

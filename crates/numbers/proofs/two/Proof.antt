@@ -1,3 +1,4 @@
+-- A run of two bytes, its last not 0.
 use borrow.Author.Needs.{needs}
 use Rattle.numbers.proofs.Reading.{values}
 use Rattle.numbers.proofs.two.Statement.{statement}

@@ -1,10 +1,10 @@
+-- A number takes as few bytes as it needs, if there is room.
 use borrow.Author.Needs.{needs}
 use native.Mathlib.Omega.{arith}
 use lib.ListN.{length-set}
 use Rattle.numbers.proofs.Writing.{writings}
 use Rattle.numbers.proofs.write_number.Statement.{statement}
 use Rattle.numbers.proofs.write_number.Tie as tie
-use Rattle.numbers.proofs.write_number.Reads as reads
 
 returns : tie.Need-returns
 returns c = search (needs, writings)

@@ -1,3 +1,4 @@
+-- Each case has its number.
 use borrow.Author.Needs.{needs}
 use Rattle.refusals.proofs.number_of.Statement.{statement}
 use Rattle.refusals.proofs.number_of.Tie as tie

@@ -1,3 +1,4 @@
+-- Each case has its place.
 use borrow.Author.Needs.{needs}
 use Rattle.refusals.proofs.place_of.Statement.{statement}
 use Rattle.refusals.proofs.place_of.Tie as tie

@@ -1,3 +1,4 @@
+-- A choice fits if it is none or a move of a seat in use.
 use borrow.Author.Needs.{needs}
 use Rattle.session.proofs.Fits.{elements}
 use Rattle.session.proofs.shape.choice_fits.Statement.{statement}

@@ -1,8 +1,8 @@
+-- A flag fits if it is 0, or 1 where it may be.
 use Rattle.session.proofs.Fits.{elements}
 use borrow.Author.Needs.{needs}
 use Rattle.session.proofs.shape.flag_fits.Statement.{statement}
 use Rattle.session.proofs.shape.flag_fits.Tie as tie
-use Rattle.session.proofs.shape.flag_fits.Reads as reads
 
 in-grid-requires : tie.Need-in-grid-requires
 in-grid-requires c κs = search needs

@@ -1,3 +1,4 @@
+-- Up to place i every flag fits.
 use Prim.Native.Nat.{_-_}
 use lib.ListN.{length}
 use borrow.Author.Needs.{needs}
@@ -5,7 +6,6 @@ use Rattle.session.specs.Shape.{flagFits, inGrid, choiceWithin}
 use Rattle.session.proofs.Fits.{Testing, testings}
 use Rattle.session.proofs.shape.flags_fit.Statement.{statement}
 use Rattle.session.proofs.shape.flags_fit.Tie as tie
-use Rattle.session.proofs.shape.flags_fit.Reads as reads
 
 abbrev Inv-loop : tie.InvT-loop
 Inv-loop flags width rows columns i₀ i = Testing (flagFits (inGrid width rows columns)) flags i

@@ -1,3 +1,4 @@
+-- A place of a grid is in use if its row and its column are.
 use Rattle.session.proofs.Fits.{elements}
 use borrow.Author.Needs.{needs}
 use Rattle.session.proofs.shape.in_grid.Statement.{statement}

@@ -1,8 +1,8 @@
+-- A position is a grid of one row.
 use Rattle.session.proofs.Fits.{row-position}
 use borrow.Author.Needs.{needs}
 use Rattle.session.proofs.shape.position_fits.Statement.{statement}
 use Rattle.session.proofs.shape.position_fits.Tie as tie
-use Rattle.session.proofs.shape.position_fits.Reads as reads
 
 flags-fit-requires : tie.Need-flags-fit-requires
 flags-fit-requires c κs = search needs

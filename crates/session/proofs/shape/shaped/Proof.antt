@@ -1,8 +1,8 @@
+-- A record fits if its round, position, choices and percepts do.
 use Rattle.session.proofs.Fits.{shapes}
 use borrow.Author.Needs.{needs}
 use Rattle.session.proofs.shape.shaped.Statement.{statement}
 use Rattle.session.proofs.shape.shaped.Tie as tie
-use Rattle.session.proofs.shape.shaped.Reads as reads
 
 returns : tie.Need-returns
 returns c = search (needs, shapes)

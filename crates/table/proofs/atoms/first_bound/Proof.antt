@@ -1,3 +1,4 @@
+-- What each kind allows in its first field.
 use borrow.Author.Needs.{needs}
 use mathlib.Core.Path.{refl, sym}
 use lib.ListN.{List·getD-eq-default}

@@ -1,3 +1,4 @@
+-- The order of atoms as one number.
 use borrow.Author.Needs.{needs}
 use native.Mathlib.Omega.{arith}
 use Rattle.table.specs.Table.{key}

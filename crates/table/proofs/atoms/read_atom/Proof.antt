@@ -1,8 +1,8 @@
+-- A kind and its two fields.
 use borrow.Author.Needs.{needs}
 use Rattle.table.proofs.Readers.{atom-laws}
 use Rattle.table.proofs.atoms.read_atom.Statement.{statement}
 use Rattle.table.proofs.atoms.read_atom.Tie as tie
-use Rattle.table.proofs.atoms.read_atom.Reads as reads
 
 read-field-requires : tie.Need-read-field-requires
 read-field-requires c κs = search needs

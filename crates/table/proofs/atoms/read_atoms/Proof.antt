@@ -1,9 +1,9 @@
+-- Up to record k the arrays hold the atoms read, each above the one before.
 use Prim.Native.Nat.{_-_, _≤_}
 use borrow.Author.Needs.{needs}
 use Rattle.table.proofs.AtomRecords.{Reading, readings}
 use Rattle.table.proofs.atoms.read_atoms.Statement.{statement}
 use Rattle.table.proofs.atoms.read_atoms.Tie as tie
-use Rattle.table.proofs.atoms.read_atoms.Reads as reads
 
 abbrev Inv-loop : tie.InvT-loop
 Inv-loop s at h kinds₀ firsts₀ seconds₀ n k₀ least₀ next₀ kinds firsts seconds k least next = Reading h s at n kinds₀ firsts₀ seconds₀ kinds firsts seconds k least next × (least ≤ 281474976710656)

@@ -1,8 +1,8 @@
+-- A field that a kind lacks takes no byte.
 use borrow.Author.Needs.{needs}
 use Rattle.table.proofs.Readers.{field-laws}
 use Rattle.table.proofs.atoms.read_optional.Statement.{statement}
 use Rattle.table.proofs.atoms.read_optional.Tie as tie
-use Rattle.table.proofs.atoms.read_optional.Reads as reads
 
 enum-told : tie.Need-enum-told
 enum-told c = search needs

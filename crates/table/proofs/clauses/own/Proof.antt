@@ -1,3 +1,4 @@
+-- Up to literal k the owners are set.
 use Prim.Native.Nat.{_-_}
 use borrow.Author.Needs.{needs}
 use Rattle.table.proofs.ClauseRecords.{Owning, ownings}

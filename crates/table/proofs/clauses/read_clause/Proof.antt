@@ -1,8 +1,8 @@
+-- A head, a count that leaves room, and the literals.
 use Rattle.table.proofs.ClauseRecords.{clause-laws}
 use borrow.Author.Needs.{needs}
 use Rattle.table.proofs.clauses.read_clause.Statement.{statement}
 use Rattle.table.proofs.clauses.read_clause.Tie as tie
-use Rattle.table.proofs.clauses.read_clause.Reads as reads
 
 read-field-requires : tie.Need-read-field-requires
 read-field-requires c κs = search needs

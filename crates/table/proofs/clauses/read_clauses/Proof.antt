@@ -1,10 +1,10 @@
+-- Up to record k the arrays hold the clauses read.
 use Prim.Native.Nat.{_-_}
 use borrow.Author.Needs.{needs}
 use native.Mathlib.Omega.{arith}
 use Rattle.table.proofs.ClauseRecords.{Laying, layings, few}
 use Rattle.table.proofs.clauses.read_clauses.Statement.{statement}
 use Rattle.table.proofs.clauses.read_clauses.Tie as tie
-use Rattle.table.proofs.clauses.read_clauses.Reads as reads
 
 abbrev Inv-loop : tie.InvT-loop
 Inv-loop s at many atoms heads₀ starts₀ literals₀ owners₀ n used₀ k₀ next₀ heads starts literals owners used k next =

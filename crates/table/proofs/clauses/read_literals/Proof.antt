@@ -1,9 +1,9 @@
+-- Up to literal k the room holds the literals read.
 use Prim.Native.Nat.{_-_}
 use borrow.Author.Needs.{needs}
 use Rattle.table.proofs.ClauseRecords.{Filling, fillings}
 use Rattle.table.proofs.clauses.read_literals.Statement.{statement}
 use Rattle.table.proofs.clauses.read_literals.Tie as tie
-use Rattle.table.proofs.clauses.read_literals.Reads as reads
 
 abbrev Inv-loop : tie.InvT-loop
 Inv-loop s at count end room₀ used n k₀ next₀ room k next = Filling s at n end room₀ used room k next

@@ -1,8 +1,8 @@
+-- A number in its range, or the fault that it is.
 use borrow.Author.Needs.{needs}
 use Rattle.table.proofs.Readers.{numbers}
 use Rattle.table.proofs.fields.read_field.Statement.{statement}
 use Rattle.table.proofs.fields.read_field.Tie as tie
-use Rattle.table.proofs.fields.read_field.Reads as reads
 
 read-number-requires : tie.Need-read-number-requires
 read-number-requires c κs = search needs

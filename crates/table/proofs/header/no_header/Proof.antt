@@ -1,3 +1,4 @@
+-- A blank header is blank.
 use Rattle.table.specs.Says.{blankHeader}
 use mathlib.Core.Path.{refl}
 use Rattle.table.proofs.header.no_header.Statement.{statement}

@@ -1,8 +1,8 @@
+-- The players, then the sizes.
 use borrow.Author.Needs.{needs}
 use Rattle.table.proofs.Readers.{header-laws}
 use Rattle.table.proofs.header.read_header.Statement.{statement}
 use Rattle.table.proofs.header.read_header.Tie as tie
-use Rattle.table.proofs.header.read_header.Reads as reads
 
 read-players-requires : tie.Need-read-players-requires
 read-players-requires c κs = search needs

@@ -1,8 +1,8 @@
+-- Version, claim, seats and chance seat, each in its range.
 use borrow.Author.Needs.{needs}
 use Rattle.table.proofs.Readers.{player-laws}
 use Rattle.table.proofs.header.read_players.Statement.{statement}
 use Rattle.table.proofs.header.read_players.Tie as tie
-use Rattle.table.proofs.header.read_players.Reads as reads
 
 read-field-requires : tie.Need-read-field-requires
 read-field-requires c κs = search needs

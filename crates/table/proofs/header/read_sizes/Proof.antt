@@ -1,8 +1,8 @@
+-- Fluents, moves, percepts and atoms, each in its range.
 use borrow.Author.Needs.{needs}
 use Rattle.table.proofs.Readers.{size-laws}
 use Rattle.table.proofs.header.read_sizes.Statement.{statement}
 use Rattle.table.proofs.header.read_sizes.Tie as tie
-use Rattle.table.proofs.header.read_sizes.Reads as reads
 
 read-field-requires : tie.Need-read-field-requires
 read-field-requires c κs = search needs

@@ -1,3 +1,4 @@
+-- A true atom of the kind sets its mark, and another leaves all.
 use Rattle.truth.proofs.Marked.{mark-cases}
 use borrow.Author.Needs.{needs}
 use Rattle.truth.proofs.marks.mark.Statement.{statement}

@@ -1,10 +1,10 @@
+-- Up to atom i the marks are those of the atoms passed.
 use Rattle.truth.proofs.Marked.{Marked, markings}
 use lib.ListN.{length}
 use Prim.Native.Nat.{_-_}
 use borrow.Author.Needs.{needs}
 use Rattle.truth.proofs.marks.marks_of.Statement.{statement}
 use Rattle.truth.proofs.marks.marks_of.Tie as tie
-use Rattle.truth.proofs.marks.marks_of.Reads as reads
 
 abbrev Inv-loop : tie.InvT-loop
 Inv-loop kinds firsts seconds flags kind width marks₀ i₀ marks i = Marked kinds firsts seconds flags kind width marks i

@@ -1,3 +1,4 @@
+-- The place of a mark by first and second field.
 use Rattle.truth.proofs.Marked.{place-fits}
 use native.Mathlib.Omega.{arith}
 use borrow.Author.Needs.{needs}
