@@ -330,8 +330,8 @@ static void bench_call(struct job *j, enum call call, const struct scale *s)
 {
     struct outcome outcomes[3];
     double touches[3];
-    for (unsigned method = PLAIN_RELAXED; method <= PLAIN_LINEAR; method++) {
-        plain_use_levels((enum plain_levels)method);
+    for (unsigned method = PLAIN_PASSES; method <= PLAIN_LINEAR; method++) {
+        plain_use((enum plain_method)method);
         observe(&plain, j, call, &outcomes[method]);
         touches[method] = touches_of(&plain, j, call, s);
     }
@@ -386,7 +386,7 @@ static int bench_folder(const char *folder, enum plain_levels rival)
         fprintf(stderr, "bench: cannot read %s\n", path);
         return 2;
     }
-    printf("%-8s %-20s %6s %6s %4s %9s %9s %9s %7s\n", "call", "table", "bytes", "lits", "no.", "touches", "relaxed", "linear",
+    printf("%-8s %-20s %6s %6s %4s %9s %9s %9s %7s\n", "call", "table", "bytes", "lits", "no.", "touches", "passes", "linear",
            "ratio");
     while (fscanf(list, "%39s %39s %u", job.group, job.name, &job.literals) == 3) {
         if (!load(&job, folder)) {
@@ -405,7 +405,7 @@ int main(int argc, char **argv)
     if (argc == 3 && strcmp(argv[1], "--linear") == 0)
         return bench_folder(argv[2], PLAIN_LINEAR);
     if (argc == 2 && argv[1][0] != '-')
-        return bench_folder(argv[1], PLAIN_RELAXED);
+        return bench_folder(argv[1], PLAIN_PASSES);
     fprintf(stderr, "usage: %s [--linear] FOLDER   (--linear: ratios against levels in linear time)\n", argv[0]);
     return 2;
 }

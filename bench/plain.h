@@ -15,9 +15,10 @@ static inline unsigned plain_number(plain_answer answer) { return answer & 0xFFF
 static inline unsigned plain_place(plain_answer answer) { return answer >> 16 & 0xFFFF; }
 static inline unsigned plain_value(plain_answer answer) { return (unsigned)(answer >> 32); }
 
-/* How levels are found: by passes over the clauses until nothing rises, or in linear time over the graph's components. */
-enum plain_levels { PLAIN_RELAXED, PLAIN_LINEAR };
-void plain_use_levels(enum plain_levels method);
+/* How levels and models are found: by passes over the clauses until nothing is new, as the proved referee does it; or in linear time, over
+ * the graph's components and by counts of unmet literals. */
+enum plain_method { PLAIN_PASSES, PLAIN_LINEAR };
+void plain_use(enum plain_method chosen);
 
 plain_answer plain_check(const uint8_t *table, size_t length);
 plain_answer plain_claim(const uint8_t *table, size_t length);

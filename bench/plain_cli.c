@@ -235,7 +235,7 @@ int main(int argc, char **argv)
     char *line = NULL;
     size_t size = 0;
     if (argc == 2 && strcmp(argv[1], "--linear") == 0)
-        plain_use_levels(PLAIN_LINEAR);
+        plain_use(PLAIN_LINEAR);
     else if (argc != 1) {
         fprintf(stderr, "usage: %s [--linear]   (levels in linear time)\n", argv[0]);
         return 2;
