@@ -3,6 +3,11 @@ use judge::Judgement;
 use refusals::Refusal;
 use refusals::number_of;
 use table::header::Header;
+use table::tables::Read;
+use table::tables::no_atoms;
+use table::tables::no_heads;
+use table::tables::no_literals;
+use table::tables::no_starts;
 ghost use mathlib.Core.Path.{_≡_};
 ghost use Rattle.gdl.specs.Game.{Game};
 ghost use Rattle.judge.specs.Judgement.{Judges};
@@ -19,6 +24,7 @@ ghost use Rattle.truth.specs.Reading.{atomsOf};
 ghost use Rattle.truth.specs.Marks.{marksOf};
 ghost use Rattle.verdict.specs.Consulted.{refusedBy, foundIn, consulted, traced, examined, Fit, cut, Columns};
 ghost use Rattle.reach.specs.Promise.{Reached};
+ghost use Rattle.verdict.specs.Weighed.{Blanks, Weighs};
 ghost use Rattle.verdict.specs.Laid.{LaidToJudge, LaidToModel, Judgeable, Modelable, LaidToTrace, Traceable};
 
 // The check, on the parts of the arrays that are in use.
@@ -85,6 +91,52 @@ fn truth_part<'s, 'a>(
     )
 }
 
+// The verdict on a table: its refusal; or its header, how many clauses it has, and the first number above its levels.
+enum Weighed {
+    Refused(Refusal),
+    Accepted(Header, u16, u16),
+}
+
+// Reads a table into lent arrays and judges it. Every call begins so.
+fn weigh(
+    s: &[u8],
+    kinds: &mut [u16; 1024],
+    firsts: &mut [u16; 1024],
+    seconds: &mut [u16; 1024],
+    heads: &mut [u16; 2048],
+    starts: &mut [u16; 2049],
+    literals: &mut [u16; 8192],
+    owners: &mut [u16; 8192],
+    levels: &mut [u16; 1024],
+) -> Weighed
+    requires { ⌜ Blanks (now kinds) (now firsts) (now seconds) (now heads) (now starts) (now literals) (now owners) ⌝ }
+    ensures { λ r. ⌜ Weighs (judge (now (s .entry))) r (now (kinds .exit)) (now (firsts .exit)) (now (seconds .exit)) (now (heads .exit)) (now (starts .exit)) (now (literals .exit)) (now (owners .exit)) (now (levels .exit)) ⌝ }
+{
+    match table::tables::read_table(s, kinds, firsts, seconds, heads, starts, literals, owners) {
+        Read::Fault(f) => Weighed::Refused(f),
+        Read::Good(header, many) => {
+            let j = judge_part(
+                kinds,
+                firsts,
+                heads,
+                starts,
+                literals,
+                owners,
+                header.sizes.atoms,
+                many,
+                header.players.seats,
+            );
+            let broken = j.refusal;
+            if number_of(broken) != 0 {
+                return Weighed::Refused(broken);
+            }
+            let found = j.levels;
+            *levels = found;
+            Weighed::Accepted(header, many, j.top)
+        }
+    }
+}
+
 // What a call learns from a table: the refusal, all else blank; or the header, the atoms, and a flag for each atom that is true.
 pub struct Consulted {
     pub refusal: Refusal,
@@ -93,12 +145,6 @@ pub struct Consulted {
     pub firsts: [u16; 1024],
     pub seconds: [u16; 1024],
     pub flags: [u8; 1024],
-}
-
-fn no_atoms() -> [u16; 1024]
-    ensures { λ r. ⌜ r ≡ blank 1024 ⌝ }
-{
-    [0; 1024]
 }
 
 fn no_flags() -> [u8; 1024]
@@ -124,54 +170,50 @@ fn refused(refusal: Refusal) -> Consulted
 pub fn consult(s: &[u8], position: [u8; 512], choices: [u16; 8]) -> Consulted
     ensures { λ r. ⌜ r ≡ consulted (judge (now (s .entry))) position choices ⌝ }
 {
-    let t = table::tables::read_table(s);
-    let unread = t.refusal;
-    if number_of(unread) != 0 {
-        return refused(unread);
-    }
-    let header = t.header;
-    let atoms = header.sizes.atoms;
-    let many = t.many;
-    let j = judge_part(
-        &t.kinds,
-        &t.firsts,
-        &t.heads,
-        &t.starts,
-        &t.literals,
-        &t.owners,
-        atoms,
-        many,
-        header.players.seats,
-    );
-    let broken = j.refusal;
-    if number_of(broken) != 0 {
-        return refused(broken);
-    }
-    let levels = j.levels;
-    let flags = truth_part(
-        &position,
-        &choices,
-        &t.kinds,
-        &t.firsts,
-        &t.seconds,
-        &t.heads,
-        &t.starts,
-        &t.literals,
-        &levels,
-        j.top,
-        atoms,
-        many,
-    );
-    let kinds = t.kinds;
-    let firsts = t.firsts;
-    let seconds = t.seconds;
-    Consulted {
-        refusal: Refusal::Success,
-        header,
-        kinds,
-        firsts,
-        seconds,
-        flags,
+    let mut kinds = no_atoms();
+    let mut firsts = no_atoms();
+    let mut seconds = no_atoms();
+    let mut heads = no_heads();
+    let mut starts = no_starts();
+    let mut literals = no_literals();
+    let mut owners = no_literals();
+    let mut levels = no_atoms();
+    match weigh(
+        s,
+        &mut kinds,
+        &mut firsts,
+        &mut seconds,
+        &mut heads,
+        &mut starts,
+        &mut literals,
+        &mut owners,
+        &mut levels,
+    ) {
+        Weighed::Refused(f) => refused(f),
+        Weighed::Accepted(header, many, top) => {
+            let flags = truth_part(
+                &position,
+                &choices,
+                &kinds,
+                &firsts,
+                &seconds,
+                &heads,
+                &starts,
+                &literals,
+                &levels,
+                top,
+                header.sizes.atoms,
+                many,
+            );
+            Consulted {
+                refusal: Refusal::Success,
+                header,
+                kinds,
+                firsts,
+                seconds,
+                flags,
+            }
+        }
     }
 }
 
@@ -194,30 +236,30 @@ fn unexamined(refusal: Refusal) -> Examined
 pub fn examine(s: &[u8]) -> Examined
     ensures { λ r. ⌜ r ≡ examined (judge (now (s .entry))) ⌝ }
 {
-    let t = table::tables::read_table(s);
-    let unread = t.refusal;
-    if number_of(unread) != 0 {
-        return unexamined(unread);
-    }
-    let header = t.header;
-    let j = judge_part(
-        &t.kinds,
-        &t.firsts,
-        &t.heads,
-        &t.starts,
-        &t.literals,
-        &t.owners,
-        header.sizes.atoms,
-        t.many,
-        header.players.seats,
-    );
-    let broken = j.refusal;
-    if number_of(broken) != 0 {
-        return unexamined(broken);
-    }
-    Examined {
-        refusal: Refusal::Success,
-        header,
+    let mut kinds = no_atoms();
+    let mut firsts = no_atoms();
+    let mut seconds = no_atoms();
+    let mut heads = no_heads();
+    let mut starts = no_starts();
+    let mut literals = no_literals();
+    let mut owners = no_literals();
+    let mut levels = no_atoms();
+    match weigh(
+        s,
+        &mut kinds,
+        &mut firsts,
+        &mut seconds,
+        &mut heads,
+        &mut starts,
+        &mut literals,
+        &mut owners,
+        &mut levels,
+    ) {
+        Weighed::Refused(f) => unexamined(f),
+        Weighed::Accepted(header, _, _) => Examined {
+            refusal: Refusal::Success,
+            header,
+        },
     }
 }
 
@@ -291,48 +333,45 @@ fn reach_part<'a>(
 pub fn trace(s: &[u8], seat: u16) -> Consulted
     ensures { λ r. ⌜ r ≡ traced (judge (now (s .entry))) seat ⌝ }
 {
-    let t = table::tables::read_table(s);
-    let unread = t.refusal;
-    if number_of(unread) != 0 {
-        return refused(unread);
-    }
-    let header = t.header;
-    let atoms = header.sizes.atoms;
-    let many = t.many;
-    let j = judge_part(
-        &t.kinds,
-        &t.firsts,
-        &t.heads,
-        &t.starts,
-        &t.literals,
-        &t.owners,
-        atoms,
-        many,
-        header.players.seats,
-    );
-    let broken = j.refusal;
-    if number_of(broken) != 0 {
-        return refused(broken);
-    }
-    let flags = reach_part(
-        &t.kinds,
-        &t.firsts,
-        &t.starts,
-        &t.literals,
-        &t.owners,
-        atoms,
-        many,
-        seat,
-    );
-    let kinds = t.kinds;
-    let firsts = t.firsts;
-    let seconds = t.seconds;
-    Consulted {
-        refusal: Refusal::Success,
-        header,
-        kinds,
-        firsts,
-        seconds,
-        flags,
+    let mut kinds = no_atoms();
+    let mut firsts = no_atoms();
+    let mut seconds = no_atoms();
+    let mut heads = no_heads();
+    let mut starts = no_starts();
+    let mut literals = no_literals();
+    let mut owners = no_literals();
+    let mut levels = no_atoms();
+    match weigh(
+        s,
+        &mut kinds,
+        &mut firsts,
+        &mut seconds,
+        &mut heads,
+        &mut starts,
+        &mut literals,
+        &mut owners,
+        &mut levels,
+    ) {
+        Weighed::Refused(f) => refused(f),
+        Weighed::Accepted(header, many, _) => {
+            let flags = reach_part(
+                &kinds,
+                &firsts,
+                &starts,
+                &literals,
+                &owners,
+                header.sizes.atoms,
+                many,
+                seat,
+            );
+            Consulted {
+                refusal: Refusal::Success,
+                header,
+                kinds,
+                firsts,
+                seconds,
+                flags,
+            }
+        }
     }
 }
