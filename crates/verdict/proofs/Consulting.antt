@@ -39,10 +39,9 @@ use Rattle.reach.proofs.Determined.{reached-is}
 use Rattle.truth.specs.Promise.{Modelled}
 use Rattle.truth.proofs.Modelled.{modelled-any}
 use Rattle.verdict.specs.Laid.{Laid, LaidToJudge, LaidToModel, Judgeable, Modelable, LaidToTrace, Traceable}
-use Rattle.verdict.specs.Consulted.{refusedBy, foundIn, consulted, traced, examined}
+use Rattle.verdict.specs.Consulted.{found, foundIn, Accepts, examined}
 use Rattle.verdict.specs.Weighed.{Blanks, Fits, Weighs}
 use Rattle.verdict.proofs.Laying.{parts, room-long}
-use Rattle.verdict.specs.declared.Consulted.{Consulted}
 use Rattle.verdict.specs.declared.Examined.{Examined}
 use Rattle.verdict.specs.declared.Weighed.{Weighed}
 use Rattle.verdict.specs.declared.Weighed.the-variants as W
@@ -186,34 +185,33 @@ module _ {v : Verdict} {h : Header} {many top : ℕ} {kinds firsts seconds heads
         owners-count = sym (rw (f .owners-are) (room-long 8192 (ownersOf (f .game .clauses))));
       }
 
-  found : (X Y : List ℕ) → X ≡ Y ++ blank (1024 - length (f .game .atoms)) → _≡_ {A = Consulted} (record { refusal = Success; header = h; kinds = kinds; firsts = firsts; seconds = seconds; flags = X }) (foundIn (f .game) Y)
-  found X Y e = cc (e, f .header-is, f .laid .kinds-are, f .laid .firsts-are, f .seconds-are)
+  found-is : (X Y : List ℕ) → X ≡ Y ++ blank (1024 - length (f .game .atoms)) → found h kinds firsts seconds X ≡ foundIn (f .game) Y
+  found-is X Y e = cc (e, f .header-is, f .laid .kinds-are, f .laid .firsts-are, f .seconds-are)
 
 module _ (s : List ℕ) {h : Header} {many top : ℕ} {kinds firsts seconds heads starts literals owners levels : List ℕ} (f : Fits (judge s) h many top kinds firsts seconds heads starts literals owners levels) where
   pub fit-consulted : (pos ch X : List ℕ)
       → ((G : Game) → LaidToModel kinds firsts seconds heads starts literals (h .sizes .atoms) many G → Modelled G pos ch X)
-      → _≡_ {A = Consulted} (record { refusal = Success; header = h; kinds = kinds; firsts = firsts; seconds = seconds; flags = X }) (consulted (judge s) pos ch)
-  fit-consulted pos ch X m = rw (f .verdict)
-      (found f X (model (f .game) pos ch) (model-flags (f .game) (accepted s (f .game) (f .verdict) .valid) (f .laid .limits .atoms) pos ch X (m (f .game) (to-model f))))
+      → Accepts (judge s) (λ G. model G pos ch) (found h kinds firsts seconds X)
+  fit-consulted pos ch X m = record {
+    game = f .game;
+    verdict = f .verdict;
+    is = found-is f X (model (f .game) pos ch) (model-flags (f .game) (accepted s (f .game) (f .verdict) .valid) (f .laid .limits .atoms) pos ch X (m (f .game) (to-model f)));
+  }
 
   pub fit-traced : (z : ℕ) (X : List ℕ)
       → ((G : Game) → LaidToTrace kinds firsts starts literals owners (h .sizes .atoms) many G → Reached G z X)
-      → _≡_ {A = Consulted} (record { refusal = Success; header = h; kinds = kinds; firsts = firsts; seconds = seconds; flags = X }) (traced (judge s) z)
-  fit-traced z X m = rw (f .verdict)
-      (found f X (reachOf (f .game) z) (reached-is (accepted s (f .game) (f .verdict) .valid) (m (f .game) (to-trace f)) (f .laid .limits .atoms)))
+      → Accepts (judge s) (λ G. reachOf G z) (found h kinds firsts seconds X)
+  fit-traced z X m = record {
+    game = f .game;
+    verdict = f .verdict;
+    is = found-is f X (reachOf (f .game) z) (reached-is (accepted s (f .game) (f .verdict) .valid) (m (f .game) (to-trace f)) (f .laid .limits .atoms));
+  }
 
   pub fit-examined : _≡_ {A = Examined} (record { refusal = Success; header = h }) (examined (judge s))
   fit-examined = rw (f .verdict) (cc (f .header-is))
 
-module _ (s : List ℕ) {f : Refusal} (e : judge s ≡ unfit f) where
-  pub refused-consulted : (y : Consulted) (pos ch : List ℕ) → y ≡ refusedBy f → y ≡ consulted (judge s) pos ch
-  refused-consulted y pos ch h = rw e h
-
-  pub refused-traced : (y : Consulted) (z : ℕ) → y ≡ refusedBy f → y ≡ traced (judge s) z
-  refused-traced y z h = rw e h
-
-  pub refused-examined : (y : Examined) → y ≡ record { refusal = f; header = blankHeader } → y ≡ examined (judge s)
-  refused-examined y h = rw e h
+pub refused-examined : (s : List ℕ) (f : Refusal) → judge s ≡ unfit f → (y : Examined) → y ≡ record { refusal = f; header = blankHeader } → y ≡ examined (judge s)
+refused-examined s f e y h = rw e h
 
 -- ---- what an answer of `weigh` says
 

@@ -1,17 +1,8 @@
 -- The answer of `weigh` says whether the table is accepted; if it is, its arrays are asked for the model.
-use Rattle.verdict.proofs.Consulting.{says-unfit, says-fit, counts, modelable, refused-consulted, fit-consulted}
+use Rattle.verdict.proofs.Consulting.{says-unfit, says-fit, counts, modelable, fit-consulted}
 use borrow.Author.Needs.{needs}
 use Rattle.verdict.proofs.consult.Statement.{statement}
 use Rattle.verdict.proofs.consult.Tie as tie
-
-no-atoms-requires : tie.Need-no-atoms-requires
-no-atoms-requires c κs = search needs
-
-no-atoms-requires-2 : tie.Need-no-atoms-requires-2
-no-atoms-requires-2 c κs = search needs
-
-no-atoms-requires-3 : tie.Need-no-atoms-requires-3
-no-atoms-requires-3 c κs = search needs
 
 no-heads-requires : tie.Need-no-heads-requires
 no-heads-requires c κs = search needs
@@ -25,8 +16,8 @@ no-literals-requires c κs = search needs
 no-literals-requires-2 : tie.Need-no-literals-requires-2
 no-literals-requires-2 c κs = search needs
 
-no-atoms-requires-4 : tie.Need-no-atoms-requires-4
-no-atoms-requires-4 c κs = search needs
+no-atoms-requires : tie.Need-no-atoms-requires
+no-atoms-requires c κs = search needs
 
 weigh-requires : tie.Need-weigh-requires
 weigh-requires c κs = search needs
@@ -34,73 +25,48 @@ weigh-requires c κs = search needs
 enum-known-f : tie.Need-enum-known-f
 enum-known-f c = search needs
 
-refused-requires : tie.Need-refused-requires
-refused-requires c κs = search needs
-
 enum-known-header : tie.Need-enum-known-header
 enum-known-header c = search needs
 
 slice-aggregate-truth-part : tie.Need-slice-aggregate-truth-part
 slice-aggregate-truth-part c =
-    let weigh = c .before .before .before .before .before .before .weigh in
-    let header = c .before .before .before .before .header in
-    let fits = says-fit _ _ _ _ _ _ _ _ _ _ (weigh .ensures) _ _ _ (header .given .1) in
-    counts fits .kinds-count
-
-slice-aggregate-truth-part-2 : tie.Need-slice-aggregate-truth-part-2
-slice-aggregate-truth-part-2 c =
-    let weigh = c .before .before .before .before .before .before .before .weigh in
-    let header = c .before .before .before .before .before .header in
-    let fits = says-fit _ _ _ _ _ _ _ _ _ _ (weigh .ensures) _ _ _ (header .given .1) in
-    counts fits .firsts-count
-
-slice-aggregate-truth-part-3 : tie.Need-slice-aggregate-truth-part-3
-slice-aggregate-truth-part-3 c =
-    let weigh = c .before .before .before .before .before .before .before .before .weigh in
-    let header = c .before .before .before .before .before .before .header in
-    let fits = says-fit _ _ _ _ _ _ _ _ _ _ (weigh .ensures) _ _ _ (header .given .1) in
-    counts fits .seconds-count
-
-slice-aggregate-truth-part-4 : tie.Need-slice-aggregate-truth-part-4
-slice-aggregate-truth-part-4 c =
-    let weigh = c .before .before .before .before .before .before .before .before .before .weigh in
-    let header = c .before .before .before .before .before .before .before .header in
-    let fits = says-fit _ _ _ _ _ _ _ _ _ _ (weigh .ensures) _ _ _ (header .given .1) in
-    counts fits .heads-count
-
-slice-aggregate-truth-part-5 : tie.Need-slice-aggregate-truth-part-5
-slice-aggregate-truth-part-5 c =
     let weigh = c .before .before .before .before .before .before .before .before .before .before .weigh in
     let header = c .before .before .before .before .before .before .before .before .header in
     let fits = says-fit _ _ _ _ _ _ _ _ _ _ (weigh .ensures) _ _ _ (header .given .1) in
-    counts fits .starts-count
+    counts fits .heads-count
 
-slice-aggregate-truth-part-6 : tie.Need-slice-aggregate-truth-part-6
-slice-aggregate-truth-part-6 c =
+slice-aggregate-truth-part-2 : tie.Need-slice-aggregate-truth-part-2
+slice-aggregate-truth-part-2 c =
     let weigh = c .before .before .before .before .before .before .before .before .before .before .before .weigh in
     let header = c .before .before .before .before .before .before .before .before .before .header in
+    let fits = says-fit _ _ _ _ _ _ _ _ _ _ (weigh .ensures) _ _ _ (header .given .1) in
+    counts fits .starts-count
+
+slice-aggregate-truth-part-3 : tie.Need-slice-aggregate-truth-part-3
+slice-aggregate-truth-part-3 c =
+    let weigh = c .before .before .before .before .before .before .before .before .before .before .before .before .weigh in
+    let header = c .before .before .before .before .before .before .before .before .before .before .header in
     let fits = says-fit _ _ _ _ _ _ _ _ _ _ (weigh .ensures) _ _ _ (header .given .1) in
     counts fits .literals-count
 
 truth-part-requires : tie.Need-truth-part-requires
 truth-part-requires c κs =
-    let weigh = c .before .before .before .before .before .before .before .before .before .before .before .before .weigh in
-    let header = c .before .before .before .before .before .before .before .before .before .before .header in
+    let weigh = c .before .before .before .before .before .before .before .before .before .before .before .before .before .weigh in
+    let header = c .before .before .before .before .before .before .before .before .before .before .before .header in
     let fits = says-fit _ _ _ _ _ _ _ _ _ _ (weigh .ensures) _ _ _ (header .given .1) in
     modelable fits
 
 returns : tie.Need-returns
 returns c =
-    let a = c .before .before .before .before .before .before .before .before .before .before .before .before .before .before .before .before .before .before .before .before .before .before .args in
-    let weigh = c .before .before .before .before .weigh in
-    let f = c .before .before .f in
-    refused-consulted (a .s .now) (says-unfit _ _ _ _ _ _ _ _ _ _ (weigh .ensures) _ (f .given .1)) _ _ _ (c .refused .ensures)
+    let weigh = c .before .before .before .weigh in
+    let f = c .before .f in
+    says-unfit _ _ _ _ _ _ _ _ _ _ (weigh .ensures) _ (f .given .1)
 
 returns-2 : tie.Need-returns-2
 returns-2 c =
-    let a = c .before .before .before .before .before .before .before .before .before .before .before .before .before .before .before .before .before .before .before .before .before .before .before .before .before .before .before .before .before .before .before .args in
-    let weigh = c .before .before .before .before .before .before .before .before .before .before .before .before .before .weigh in
-    let header = c .before .before .before .before .before .before .before .before .before .before .before .header in
+    let a = c .before .before .before .before .before .before .before .before .before .before .before .before .before .before .before .before .before .before .before .before .before .before .before .before .before .before .before .before .before .args in
+    let weigh = c .before .before .before .before .before .before .before .before .before .before .before .before .before .before .weigh in
+    let header = c .before .before .before .before .before .before .before .before .before .before .before .before .header in
     let fits = says-fit _ _ _ _ _ _ _ _ _ _ (weigh .ensures) _ _ _ (header .given .1) in
     fit-consulted (a .s .now) fits _ _ _ (c .truth-part .ensures)
 
@@ -108,24 +74,17 @@ pub consult-spec : {M : Type 1} → statement M
 consult-spec =
     tie.close
     (tie.spec
-    no-atoms-requires
-    no-atoms-requires-2
-    no-atoms-requires-3
     no-heads-requires
     no-starts-requires
     no-literals-requires
     no-literals-requires-2
-    no-atoms-requires-4
+    no-atoms-requires
     weigh-requires
     enum-known-f
-    refused-requires
     enum-known-header
     slice-aggregate-truth-part
     slice-aggregate-truth-part-2
     slice-aggregate-truth-part-3
-    slice-aggregate-truth-part-4
-    slice-aggregate-truth-part-5
-    slice-aggregate-truth-part-6
     truth-part-requires
     returns
     returns-2)

@@ -45,7 +45,7 @@ returns c =
     let a = c .before .before .before .before .before .before .before .before .before .before .before .before .before .before .before .before .before .before .before .before .before .before .args in
     let weigh = c .before .before .before .before .weigh in
     let f = c .before .before .f in
-    refused-examined (a .s .now) (says-unfit _ _ _ _ _ _ _ _ _ _ (weigh .ensures) _ (f .given .1)) _ (c .unexamined .ensures)
+    refused-examined (a .s .now) _ (says-unfit _ _ _ _ _ _ _ _ _ _ (weigh .ensures) _ (f .given .1)) _ (c .unexamined .ensures)
 
 returns-2 : tie.Need-returns-2
 returns-2 c =
