@@ -9,7 +9,7 @@ use lib.ListN.{length, getD, set, length-set, getD-replicate, length-replicate}
 use mir.Syntax.{w64}
 use mir.Val.{Fits}
 use Rattle.edges.specs.Graph.{endOf}
-use Rattle.edges.specs.Uses.{FirstUse, Chained, Ends, Indexed, noUses, noNexts}
+use Rattle.edges.specs.Uses.{FirstUse, Chained, Ends, Unindexed, Indexed, noUses, noNexts}
 use Rattle.edges.proofs.Setting.{after-set}
 
 -- the edges from `low` on are indexed
@@ -28,17 +28,21 @@ no-use le fits = record {
   lowest = λ j ge lt e. absurd (omega arith);
 }
 
-pub index-starts : (to first next : List ℕ) → Ends to → first ≡ noUses → next ≡ noNexts → Indexing to first next (length to)
+pub index-starts : (to first next : List ℕ) → Unindexed to first next → Indexing to first next (length to)
 unfolding noUses noNexts
-index-starts to first next s ef en = record {
-  within = omega arith;
-  chained = record {
-    firsts = λ a lt. subst (FirstUse to a (length to)) (sym (ap (λ (l : List ℕ). getD l a 0) ef ∙ getD-replicate 1024 a 9216 0 lt)) (no-use (omega arith) (s .edges));
-    nexts = λ k ge lt. subst (FirstUse to (endOf to k) (suc k)) (sym (ap (λ (l : List ℕ). getD l k 0) en ∙ getD-replicate 9216 k 9216 0 lt)) (no-use (omega arith) (omega arith));
-  };
-  first-long = ap length ef ∙ length-replicate {A = ℕ} 1024 9216;
-  next-long = ap length en ∙ length-replicate {A = ℕ} 9216 9216;
-}
+index-starts to first next u =
+    let s : Ends to = u .ends in
+    let ef : first ≡ noUses = u .no-firsts in
+    let en : next ≡ noNexts = u .no-nexts in
+    record {
+      within = omega arith;
+      chained = record {
+        firsts = λ a lt. subst (FirstUse to a (length to)) (sym (ap (λ (l : List ℕ). getD l a 0) ef ∙ getD-replicate 1024 a 9216 0 lt)) (no-use (omega arith) (s .edges));
+        nexts = λ k ge lt. subst (FirstUse to (endOf to k) (suc k)) (sym (ap (λ (l : List ℕ). getD l k 0) en ∙ getD-replicate 9216 k 9216 0 lt)) (no-use (omega arith) (omega arith));
+      };
+      first-long = ap length ef ∙ length-replicate {A = ℕ} 1024 9216;
+      next-long = ap length en ∙ length-replicate {A = ℕ} 9216 9216;
+    }
 
 -- edge k goes before the uses of its end that come after it
 module _ {to first next : List ℕ} {low : ℕ} (i : Indexing to first next low) (s : Ends to) (k a : ℕ) (ek : low ≡ suc k) (ea : a ≡ endOf to k) where

@@ -23,6 +23,19 @@ pub record Ends (to : List ℕ) : Type 0 where
   pub nodes : (k : ℕ) → k < length to → endOf to k < 1024
   pub edges : length to ≤ 9216
 
+-- no use known yet
+unfoldable pub noUses : List ℕ
+noUses = replicate 1024 9216
+
+unfoldable pub noNexts : List ℕ
+noNexts = replicate 9216 9216
+
+-- edges, and arrays for their index that know no use yet
+pub record Unindexed (to first next : List ℕ) : Type 0 where
+  pub ends : Ends to
+  pub no-firsts : first ≡ noUses
+  pub no-nexts : next ≡ noNexts
+
 -- the index of all edges, as an answer
 pub record Indexed (to first next : List ℕ) : Type 0 where
   pub chained : Chained to first next 0
@@ -33,10 +46,3 @@ pub record Indexed (to first next : List ℕ) : Type 0 where
 pub record Index (from to first next : List ℕ) : Type 0 where
   pub sized : Sized from to
   pub chained : Chained to first next 0
-
--- no use known yet
-unfoldable pub noUses : List ℕ
-noUses = replicate 1024 9216
-
-unfoldable pub noNexts : List ℕ
-noNexts = replicate 9216 9216

@@ -19,8 +19,8 @@ pub fn close_back(from: &[u16], to: &[u16], seeds: &[u8; 1024]) -> [u8; 1024]
     requires { ⌜ Seeded (now from) (now to) (now seeds) ⌝ }
     ensures { λ r. ⌜ ClosedBack (now (from .entry)) (now (to .entry)) (now (seeds .entry)) r ⌝ }
 {
-    let index = uses::index_uses(to);
-    let first = index.first;
-    let next = index.next;
+    let mut first = uses::no_uses();
+    let mut next = uses::no_nexts();
+    uses::index_uses(to, &mut first, &mut next);
     marks::dependents(from, to, &first, &next, seeds)
 }

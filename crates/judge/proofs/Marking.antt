@@ -16,13 +16,14 @@ use Rattle.gdl.specs.Flags.{on, bit, blank}
 use Rattle.gdl.specs.Graph.{itself, Depends}
 use Rattle.gdl.proofs.Tests.{and-left, and-right, and-both, eq→eqb}
 use Rattle.edges.specs.Graph.{Drawn}
-use Rattle.edges.specs.Closure.{Seeded, ClosedBack}
+use Rattle.edges.specs.Closure.{ClosedBack}
+use Rattle.edges.specs.Uses.{noUses, noNexts, Unindexed, Indexed}
 use Rattle.edges.specs.Marks.{noMarks}
 use Rattle.edges.proofs.Drawing.{clauses-drawn, graph-sized}
 use Rattle.edges.proofs.Depending.{OnSeed, closed-back}
 use Rattle.rules.specs.Rules.{oneOf, Leans}
 use Rattle.judge.specs.Answers.{Tested, Tells}
-use Rattle.judge.specs.Arrays.{Sown, HeldEdges, EdgesShaped, Rests, MarksOf, LeanAsked, MarkAsked}
+use Rattle.judge.specs.Arrays.{Sown, HeldEdges, EdgesShaped, EdgesIndexed, Rests, MarksOf, LeanAsked, MarkAsked}
 use Rattle.rules.proofs.Finding.{apart}
 use Rattle.judge.proofs.Searching.{Bounded}
 use Rattle.judge.proofs.Holding.{kind-held}
@@ -92,8 +93,19 @@ module _ (kinds owners literals : List ℕ) (G : Game) (h : HeldEdges kinds owne
   pub held-drawn : Drawn itself (G .clauses) owners literals (length kinds)
   held-drawn = rw (h .owners-are, h .literals-are, kinds-many) (clauses-drawn (G .clauses) (length (G .atoms)) (h .limits .heads))
 
-pub shaped-seeded : (kinds owners literals those seeds : List ℕ) → EdgesShaped kinds owners literals → Sown kinds those (length kinds) seeds → Seeded owners literals seeds
-shaped-seeded kinds owners literals those seeds a s = record { sized = graph-sized (a .graph) (a .atoms) (omega (arith, a .few)); seeds-long = s .long }
+-- the index of the uses, before it is made and after
+module _ (kinds owners literals first next : List ℕ) (a : EdgesShaped kinds owners literals) where
+  pub uses-unindexed : first ≡ noUses → next ≡ noNexts → Unindexed literals first next
+  uses-unindexed f n = record {
+    ends = record { nodes = λ k lt. omega (arith, a .graph .ends k lt, a .atoms); edges = omega (arith, a .few) };
+    no-firsts = f;
+    no-nexts = n;
+  }
+
+  pub uses-indexed : Indexed literals first next → EdgesIndexed kinds owners literals first next
+  uses-indexed i = record { shaped = a; index = record { sized = graph-sized (a .graph) (a .atoms) (omega (arith, a .few)); chained = i .chained } }
+
+pub ruleset indexing = (uses-unindexed, uses-indexed)
 
 pub seeds-marked : (kinds owners literals those seeds marks : List ℕ) → EdgesShaped kinds owners literals → Sown kinds those (length kinds) seeds → ClosedBack owners literals seeds marks
     → MarksOf (HeldEdges kinds owners literals) those marks
@@ -120,9 +132,9 @@ module _ (kinds owners literals these those : List ℕ) where
   pub leaning-atom : Bounded (HeldEdges kinds owners literals) (Leans these those) (length kinds)
   leaning-atom = record { below = λ G h p b. omega (arith, b .atom, kinds-many kinds owners literals G h) }
 
-  module _ (a : LeanAsked kinds owners literals these those) (p : ℕ) (lt : p < length kinds) where
+  module _ (first next : List ℕ) (a : LeanAsked kinds owners literals first next these those) (p : ℕ) (lt : p < length kinds) where
     pub asked-mark : MarkAsked kinds p
-    asked-mark = record { kind = lt; mark = omega (arith, a .shaped .atoms) }
+    asked-mark = record { kind = lt; mark = omega (arith, a .indexed .shaped .atoms) }
 
     module _ (marks : List ℕ) (m : MarksOf (HeldEdges kinds owners literals) those marks) where
       module _ (G : Game) (h : HeldEdges kinds owners literals G) where
@@ -146,4 +158,4 @@ module _ (kinds owners literals these those : List ℕ) where
       pub lean-tells : (b : Bool) → b ≡ (oneOf these (getD kinds p 0) && on marks p) → Tested (HeldEdges kinds owners literals) (Leans these those) p b
       lean-tells b e = record { tells = λ G h. told G h b (e ∙ ap (λ (k : ℕ). oneOf these k && on marks p) (kind-is G h)) }
 
-pub ruleset leaning = (sown-start, sown-more, sown-all, mark-both, mark-none, shaped-seeded, seeds-marked, leaning-atom, asked-mark, lean-tells)
+pub ruleset leaning = (sown-start, sown-more, sown-all, mark-both, mark-none, seeds-marked, leaning-atom, asked-mark, lean-tells)

@@ -11,6 +11,7 @@ use Rattle.gdl.specs.Layout.{kindsOf, firstsOf, headsOf, startsFrom, literalsOf
 use Rattle.gdl.specs.Flags.{on, bit}
 use Rattle.gdl.specs.Graph.{itself, Depends}
 use Rattle.edges.specs.Graph.{Graph}
+use Rattle.edges.specs.Uses.{Index}
 use Rattle.rules.specs.Rules.{oneOf, RoleBroken, HeadBroken, BodyBroken}
 use Rattle.rules.specs.Judged.{disjoint}
 use Rattle.rules.specs.Limits.{Limits}
@@ -100,6 +101,11 @@ pub record EdgesShaped (kinds owners literals : List ℕ) : Type 0 where
   pub atoms : length kinds ≤ 1024
   pub few : length literals ≤ 8192
 
+-- the same, with the index of the uses
+pub record EdgesIndexed (kinds owners literals first next : List ℕ) : Type 0 where
+  pub shaped : EdgesShaped kinds owners literals
+  pub index : Index owners literals first next
+
 -- p is of one of those kinds, or depends on an atom that is
 pub record Rests (those : List ℕ) (G : Game) (p : ℕ) : Type 0 where
   pub on : ℕ
@@ -111,8 +117,8 @@ pub record Rests (those : List ℕ) (G : Game) (p : ℕ) : Type 0 where
 pub record MarksOf (Held : Game → Type 0) (those marks : List ℕ) : Type 0 where
   pub rests : (G : Game) → Held G → (p : ℕ) → T (on marks p) ↔ Rests those G p
 
-pub record LeanAsked (kinds owners literals these those : List ℕ) : Type 0 where
-  pub shaped : EdgesShaped kinds owners literals
+pub record LeanAsked (kinds owners literals first next these those : List ℕ) : Type 0 where
+  pub indexed : EdgesIndexed kinds owners literals first next
   pub apart : T (disjoint these those)
 
 -- an atom with a kind and a place among 1,024 marks

@@ -6,7 +6,7 @@ ghost use lib.ListN.{length, getD};
 ghost use Rattle.gdl.specs.Flags.{on, bit};
 ghost use Rattle.rules.specs.Rules.{oneOf, Leans};
 ghost use Rattle.judge.specs.Answers.{Searched};
-ghost use Rattle.judge.specs.Arrays.{Sown, HeldEdges, EdgesShaped, MarksOf, LeanAsked, MarkAsked};
+ghost use Rattle.judge.specs.Arrays.{Sown, HeldEdges, EdgesIndexed, MarksOf, LeanAsked, MarkAsked};
 use super::found::Found;
 use super::kinds::one_of;
 
@@ -34,12 +34,19 @@ fn seeds_of(kinds: &[u16], those: &[u16]) -> [u8; 1024]
 }
 
 // A mark for each atom that is of one of those kinds or depends on one.
-fn marks_of(kinds: &[u16], owners: &[u16], literals: &[u16], those: &[u16]) -> [u8; 1024]
-    requires { ⌜ EdgesShaped (now kinds) (now owners) (now literals) ⌝ }
+fn marks_of(
+    kinds: &[u16],
+    owners: &[u16],
+    literals: &[u16],
+    first: &[u16; 1024],
+    next: &[u16; 9216],
+    those: &[u16],
+) -> [u8; 1024]
+    requires { ⌜ EdgesIndexed (now kinds) (now owners) (now literals) (now first) (now next) ⌝ }
     ensures { λ r. ⌜ MarksOf (HeldEdges (now (kinds .entry)) (now (owners .entry)) (now (literals .entry))) (now (those .entry)) r ⌝ }
 {
     let seeds = seeds_of(kinds, those);
-    edges::close_back(owners, literals, &seeds)
+    edges::marks::dependents(owners, literals, first, next, &seeds)
 }
 
 // Whether atom p is marked and of one of these kinds.
@@ -53,18 +60,20 @@ fn marked(kinds: &[u16], marks: &[u8; 1024], these: &[u16], p: usize) -> bool
     false
 }
 
-// The lowest atom of one of these kinds that depends on one of those, which are other kinds.
+// The lowest atom of one of these kinds that depends on one of those, which are other kinds. `first` and `next` index the uses of the atoms.
 pub(super) fn lowest_leaning(
     kinds: &[u16],
     owners: &[u16],
     literals: &[u16],
+    first: &[u16; 1024],
+    next: &[u16; 9216],
     these: &[u16],
     those: &[u16],
 ) -> Found
-    requires { ⌜ LeanAsked (now kinds) (now owners) (now literals) (now these) (now those) ⌝ }
+    requires { ⌜ LeanAsked (now kinds) (now owners) (now literals) (now first) (now next) (now these) (now those) ⌝ }
     ensures { λ r. ⌜ Searched (HeldEdges (now (kinds .entry)) (now (owners .entry)) (now (literals .entry))) (Leans (now (these .entry)) (now (those .entry))) r ⌝ }
 {
-    let marks = marks_of(kinds, owners, literals, those);
+    let marks = marks_of(kinds, owners, literals, first, next, those);
     let mut p = 0;
     while p < kinds.len() {
         if marked(kinds, &marks, these, p) {

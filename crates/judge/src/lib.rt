@@ -64,22 +64,35 @@ fn judge_clauses(kinds: &[u16], heads: &[u16], starts: &[u16], literals: &[u16])
     }
 }
 
-// 9 and 10.
+// 9 and 10, over one index of the uses.
 fn judge_dependence(kinds: &[u16], owners: &[u16], literals: &[u16]) -> Refusal
     requires { ⌜ EdgesShaped (now kinds) (now owners) (now literals) ⌝ }
     ensures { λ r. ⌜ Answers (HeldEdges (now (kinds .entry)) (now (owners .entry)) (now (literals .entry))) dependenceRules r ⌝ }
 {
+    let mut first = edges::uses::no_uses();
+    let mut next = edges::uses::no_nexts();
+    edges::uses::index_uses(literals, &mut first, &mut next);
     match lowest_leaning(
         kinds,
         owners,
         literals,
+        &first,
+        &next,
         &[INIT],
         &[TRUE, DOES, LEGAL, TERMINAL, GOAL],
     ) {
         Found::At(p) => return Refusal::InitRule(p),
         Found::Nowhere => {}
     }
-    match lowest_leaning(kinds, owners, literals, &[LEGAL, TERMINAL, GOAL], &[DOES]) {
+    match lowest_leaning(
+        kinds,
+        owners,
+        literals,
+        &first,
+        &next,
+        &[LEGAL, TERMINAL, GOAL],
+        &[DOES],
+    ) {
         Found::At(p) => Refusal::DoesRule(p),
         Found::Nowhere => Refusal::Success,
     }

@@ -10,7 +10,7 @@ use lib.ListN.{length, getD, set, length-set, length-replicate}
 use lib.Seq.{getD-set-same, getD-set-other}
 use Rattle.gdl.specs.Flags.{blank}
 use Rattle.edges.specs.Graph.{startOf, endOf}
-use Rattle.reach.specs.Links.{Follows, Brings, byLiteral, byFluent, Link, Linked, BodyLinked, Grows, Literals, Onward, Linkable, Precedes, Readable}
+use Rattle.reach.specs.Links.{Follows, Brings, byLiteral, byFluent, Link, Linked, BodyLinked, Grows, Literals, Onward, Linkable, Precedes, Readable, Unlinked}
 
 -- ---- one link more
 
@@ -168,18 +168,20 @@ pub ruleset growths = (grows-none, grows-atom, grows-one)
 
 -- ---- all links
 
-module _ (kinds firsts literals owners : List ℕ) (s : Readable kinds firsts literals owners) where
-  pub links-literals : (from to : List ℕ) → from ≡ blank 9216 → to ≡ blank 9216 → Literals literals owners from to
-  links-literals from to ef et = record {
-    graph = record {
-      same = s .graph .same;
-      starts = λ k lt. omega (arith, s .graph .starts k lt, s .fluents .columns .few);
-      ends = λ k lt. omega (arith, s .graph .ends k lt, s .fluents .columns .few);
-    };
-    few = s .few;
-    from-long = ap length ef ∙ length-replicate {A = ℕ} 9216 0;
-    to-long = ap length et ∙ length-replicate {A = ℕ} 9216 0;
-  }
+module _ (kinds firsts literals owners : List ℕ) where
+  pub links-literals : (from to : List ℕ) → Unlinked kinds firsts literals owners from to → Literals literals owners from to
+  links-literals from to u =
+      let s : Readable kinds firsts literals owners = u .readable in
+      record {
+        graph = record {
+          same = s .graph .same;
+          starts = λ k lt. omega (arith, s .graph .starts k lt, s .fluents .columns .few);
+          ends = λ k lt. omega (arith, s .graph .ends k lt, s .fluents .columns .few);
+        };
+        few = s .few;
+        from-long = ap length (u .from-blank) ∙ length-replicate {A = ℕ} 9216 0;
+        to-long = ap length (u .to-blank) ∙ length-replicate {A = ℕ} 9216 0;
+      }
 
   module _ (from to : List ℕ) where
     pub links-start : BodyLinked literals owners (length literals) from to → Linked kinds firsts literals owners (length literals) 0 from to (length literals)

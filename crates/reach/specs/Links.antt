@@ -5,6 +5,7 @@ use mathlib.Core.List.{List}
 use Prim.Native.Nat.{ℕ, suc, _+_, _/_, _<_, _≤_}
 use lib.ListN.{length, getD}
 use Rattle.gdl.specs.Game.{initKind, nextKind}
+use Rattle.gdl.specs.Flags.{blank}
 use Rattle.edges.specs.Graph.{startOf, endOf, Graph}
 use Rattle.reach.specs.Trues.{TrueAt, Fluents, Trues}
 
@@ -75,3 +76,9 @@ pub record Readable (kinds firsts literals owners : List ℕ) : Type 0 where
   pub fluents : Fluents kinds firsts
   pub graph : Graph owners literals (length kinds)
   pub few : length literals ≤ 8192
+
+-- the same, and blank arrays for the links
+pub record Unlinked (kinds firsts literals owners from to : List ℕ) : Type 0 where
+  pub readable : Readable kinds firsts literals owners
+  pub from-blank : from ≡ blank 9216
+  pub to-blank : to ≡ blank 9216

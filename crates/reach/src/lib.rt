@@ -28,9 +28,8 @@ pub fn reach_of(
     ensures { λ r. ⌜ ((G : Game) → Laid G (now (kinds .entry)) (now (firsts .entry)) (now (literals .entry)) (now (owners .entry)) → Reached G seat r) ⌝ }
 {
     let seeds = seeds::seeds_of(kinds, firsts, seat);
-    let links = links::links_of(kinds, firsts, literals, owners);
-    let from = links.from;
-    let to = links.to;
-    let many = links.many;
+    let mut from = links::no_links();
+    let mut to = links::no_links();
+    let many = links::links_of(kinds, firsts, literals, owners, &mut from, &mut to);
     edges::close_back(&from[0..many], &to[0..many], &seeds)
 }

@@ -4,20 +4,14 @@ ghost use mathlib.Core.Path.{_≡_};
 ghost use Prim.Native.Nat.{_*_, _<_};
 ghost use lib.ListN.{length, set};
 ghost use Rattle.gdl.specs.Flags.{blank};
-ghost use Rattle.reach.specs.Links.{Linked, BodyLinked, Grows, Literals, Onward, Linkable, Precedes, Readable};
+ghost use Rattle.reach.specs.Links.{Linked, BodyLinked, Grows, Literals, Onward, Linkable, Precedes, Unlinked};
 
 const INIT_KIND: u16 = 2;
 
 const NEXT_KIND: u16 = 6;
 
-// `many` links.
-pub(super) struct Links {
-    pub from: [u16; 9216],
-    pub to: [u16; 9216],
-    pub many: usize,
-}
-
-fn no_links() -> [u16; 9216]
+// No links.
+pub(super) fn no_links() -> [u16; 9216]
     ensures { λ r. ⌜ r ≡ blank 9216 ⌝ }
 {
     [0; 9216]
@@ -84,20 +78,25 @@ fn link_onward(
     n + 1
 }
 
-// All links: one visit of each literal and of each of at most 1,024 atoms.
-pub(super) fn links_of(kinds: &[u16], firsts: &[u16], literals: &[u16], owners: &[u16]) -> Links
-    requires { ⌜ Readable (now kinds) (now firsts) (now literals) (now owners) ⌝ }
-    ensures { λ r. ⌜ Linked (now (kinds .entry)) (now (firsts .entry)) (now (literals .entry)) (now (owners .entry)) (length (now (literals .entry))) (length (now (kinds .entry))) (r .from) (r .to) (r .many) ⌝ }
+// All links, into lent arrays; answers how many. One visit of each literal and of each of at most 1,024 atoms.
+pub(super) fn links_of(
+    kinds: &[u16],
+    firsts: &[u16],
+    literals: &[u16],
+    owners: &[u16],
+    from: &mut [u16; 9216],
+    to: &mut [u16; 9216],
+) -> usize
+    requires { ⌜ Unlinked (now kinds) (now firsts) (now literals) (now owners) (now from) (now to) ⌝ }
+    ensures { λ many. ⌜ Linked (now (kinds .entry)) (now (firsts .entry)) (now (literals .entry)) (now (owners .entry)) (length (now (literals .entry))) (length (now (kinds .entry))) (now (from .exit)) (now (to .exit)) many ⌝ }
 {
     let trues = super::trues::trues_of(kinds, firsts);
-    let mut from = no_links();
-    let mut to = no_links();
-    link_bodies(literals, owners, &mut from, &mut to);
+    link_bodies(literals, owners, from, to);
     let mut many = literals.len();
     let mut q = 0;
     while q < kinds.len() {
-        many = link_onward(kinds, firsts, &trues, &mut from, &mut to, many, q);
+        many = link_onward(kinds, firsts, &trues, from, to, many, q);
         q += 1;
     }
-    Links { from, to, many }
+    many
 }

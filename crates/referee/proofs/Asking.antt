@@ -4,16 +4,14 @@ use mathlib.Core.Bool.{Bool, true, false, not, _&&_}
 use mathlib.Core.List.{List, [], _∷_, map}
 use Prim.Native.Nat.{ℕ, suc, _+_, _*_, _≤_, _<_}
 use native.Mathlib.Omega.{arith}
-use lib.Dec.{T, eqb, leb, leb→le}
+use lib.Dec.{eqb}
 use lib.ListN.{length, getD, take}
 use borrow.Author.Tests.{ne-eqb, eq-eqb, not-true, not-false}
-use Rattle.refusals.specs.Refusal.{numberOf}
 use Rattle.refusals.specs.declared.Refusal.{Refusal}
 use Rattle.gdl.specs.Game.{Atom, Game, legalKind, terminalKind, goalKind}
 use Rattle.gdl.specs.Flags.{on, bit, blank}
 use Rattle.gdl.specs.Truth.{isFact}
 use Rattle.gdl.specs.Computed.{did, facts, model}
-use Rattle.gdl.proofs.Tests.{and-left}
 use Rattle.gdl.proofs.Walks.{zeros}
 use Rattle.rules.specs.Verdict.{Verdict, unfit, fit}
 use Rattle.rules.specs.Judged.{judge}
@@ -23,12 +21,13 @@ use Rattle.session.specs.Shape.{shaped, limitsOf}
 use Rattle.session.specs.declared.Session.{Session}
 use Rattle.session.specs.declared.shape.Limits.{Limits}
 use Rattle.truth.specs.Marks.{marksOf}
-use Rattle.verdict.specs.Consulted.{refusedBy, foundIn, consulted, Fit}
-use Rattle.verdict.specs.declared.Consulted.{Consulted}
+use Rattle.verdict.specs.Consulted.{Consulted, found, foundIn, Fit, Accepts, Learns}
+use Rattle.verdict.specs.declared.Learnt.{Learnt}
+use Rattle.verdict.specs.declared.Learnt.the-variants as L
+use Rattle.table.specs.declared.header.Header.{Header}
 use Rattle.calls.specs.Position.{still, over, legal, goal}
 use Rattle.calls.proofs.Settled.{settled}
 use Rattle.referee.specs.Asked.{Asked}
-use Rattle.referee.proofs.Checking.{unfit-of-table}
 use Rattle.referee.proofs.Reading.{wide-mark, thin-mark}
 
 -- ---- no choices are blank choices, no position a blank one
@@ -51,34 +50,17 @@ pub empty-is : (G : Game) → model G (blank 512) (blank 8) ≡ still G []
 unfolding still model
 empty-is G = rw (facts-same G (blank 512) [] (blank 8) [] nowhere idle)
 
--- ---- the verdict of a table that was consulted
+-- ---- what an answer says of the verdict
 
-module _ (s : List ℕ) (c : Consulted) (pos ch : List ℕ) (e : c ≡ consulted (judge s) pos ch) where
-  pub record Accepting : Type 0 where
-    pub game : Game
-    pub judged : judge s ≡ fit game
-    pub is : c ≡ foundIn game (model game pos ch)
-    pub ok : Accepted game
+module _ (v : Verdict) (flagsOf : Game → List ℕ) (r : Learnt) (kinds firsts seconds flags : List ℕ) (l : Learns v flagsOf r kinds firsts seconds flags) where
+  pub refusing : (f : Refusal) → r ≡ L.Refused f → v ≡ unfit f
+  refusing f e = rw e at l
 
-  pub accepting : numberOf (c .refusal) ≡ 0 → Accepting
-  accepting z = go (judge s) refl
-    where
-      go : (v : Verdict) → judge s ≡ v → Accepting
-      go (unfit r) q =
-          let f : c .refusal ≡ r = ap (λ (x : Consulted). x .refusal) (rw q at e) in
-          let some : 1 ≤ numberOf r = leb→le 1 (numberOf r) (and-left (leb 1 (numberOf r)) (leb (numberOf r) 13) (unfit-of-table s r q)) in
-          absurd (omega (arith, ap numberOf f))
-      go (fit G) q = record { game = G; judged = q; is = rw q at e; ok = accepted s G q }
+  pub accepting : (h : Header) → r ≡ L.Accepted h → Accepts v flagsOf (found h kinds firsts seconds flags)
+  accepting h e = rw e at l
 
-  pub refusing : (numberOf (c .refusal) ≡ 0 → ⊥) → judge s ≡ unfit (c .refusal)
-  refusing n = go (judge s) refl
-    where
-      go : (v : Verdict) → judge s ≡ v → judge s ≡ unfit (c .refusal)
-      go (unfit r) q = rw q (ap unfit (sym (ap (λ (x : Consulted). x .refusal) (rw q at e))))
-      go (fit G) q = absurd (n (ap (λ (x : Consulted). numberOf (x .refusal)) (rw q at e)))
-
-  pub asked-of : numberOf (c .refusal) ≡ 0 → Asked c pos ch
-  asked-of z = let a = accepting z in record { game = a .game; accepted = a .ok; is = a .is }
+pub asked-of : (s : List ℕ) {c : Consulted} (pos ch : List ℕ) → Accepts (judge s) (λ G. model G pos ch) c → Asked c pos ch
+asked-of s pos ch a = record { game = a .game; accepted = accepted s (a .game) (a .verdict); is = a .is }
 
 pub fit-of : {c : Consulted} {pos ch : List ℕ} → Asked c pos ch → Fit c
 fit-of {c} {pos} {ch} a = record { game = a .game; flags = model (a .game) pos ch; is = a .is; few = a .accepted .limits .atoms }

@@ -4,28 +4,24 @@ use mathlib.Core.Bool.{Bool, true, false, not}
 use mathlib.Core.List.{List, []}
 use Prim.Native.Nat.{ℕ, _+_, _*_, _≤_, _<_}
 use native.Mathlib.Omega.{arith}
-use lib.Dec.{eqb, leb, leb→le}
+use lib.Dec.{eqb, leb}
 use lib.ListN.{length, getD}
 use borrow.Author.Tests.{le-leb, lt-leb, ne-eqb, eq-eqb}
-use Rattle.refusals.specs.Refusal.{numberOf}
 use Rattle.refusals.specs.declared.Refusal.{Refusal}
 use Rattle.refusals.specs.declared.Refusal.the-variants.{Success}
 use Rattle.gdl.specs.Game.{Game}
 use Rattle.gdl.specs.Flags.{on, bit}
 use Rattle.gdl.specs.Computed.{reachOf, hidden}
-use Rattle.gdl.proofs.Tests.{and-left}
 use Rattle.rules.specs.Accepted.{Accepted}
 use Rattle.rules.specs.Verdict.{Verdict, unfit, fit}
 use Rattle.rules.specs.Judged.{judge}
 use Rattle.rules.proofs.Accepting.{accepted}
 use Rattle.session.specs.declared.shape.Limits.{Limits}
-use Rattle.verdict.specs.Consulted.{foundIn, traced, Fit}
-use Rattle.verdict.specs.declared.Consulted.{Consulted}
+use Rattle.verdict.specs.Consulted.{Consulted, foundIn, Fit, Accepts}
 use Rattle.calls.specs.declared.Looked.{Looked}
 use Rattle.referee.specs.Asked.{Traced}
 use Rattle.calls.specs.Calls.{hiddenFrom}
 use Rattle.calls.specs.Promises.{HiddenPromise}
-use Rattle.referee.proofs.Checking.{unfit-of-table}
 use Rattle.calls.proofs.Meeting.{hidden-meets}
 use Rattle.calls.proofs.Returns.{hidden-unfit, hidden-done}
 use Rattle.referee.proofs.Reading.{wide-mark}
@@ -79,38 +75,18 @@ traced-fit {c} {z} a = record { game = a .game; flags = reachOf (a .game) z; is 
 
 -- ---- the whole call
 
-module _ (t : List ℕ) (c : Consulted) (z : ℕ) (e : c ≡ traced (judge t) z) where
-  pub record Tracing : Type 0 where
-    pub game : Game
-    pub judged : judge t ≡ fit game
-    pub is : c ≡ foundIn game (reachOf game z)
-    pub ok : Accepted game
-
-  pub tracing : numberOf (c .refusal) ≡ 0 → Tracing
-  tracing n = go (judge t) refl
-    where
-      go : (v : Verdict) → judge t ≡ v → Tracing
-      go (unfit r) q =
-          let f : c .refusal ≡ r = ap (λ (x : Consulted). x .refusal) (rw q at e) in
-          let some : 1 ≤ numberOf r = leb→le 1 (numberOf r) (and-left (leb 1 (numberOf r)) (leb (numberOf r) 13) (unfit-of-table t r q)) in
-          absurd (omega (arith, ap numberOf f))
-      go (fit G) q = record { game = G; judged = q; is = rw q at e; ok = accepted t G q }
-
-  pub traced-of : numberOf (c .refusal) ≡ 0 → Traced c z
-  traced-of n = let a = tracing n in record { game = a .game; accepted = a .ok; is = a .is }
+module _ (t : List ℕ) (z : ℕ) where
+  pub traced-of : {c : Consulted} → Accepts (judge t) (λ G. reachOf G z) c → Traced c z
+  traced-of a = record { game = a .game; accepted = accepted t (a .game) (a .verdict); is = a .is }
 
   promise : (s m : ℕ) (r : Looked) → r ≡ hiddenFrom (judge t) z s m → HiddenPromise (judge t) z s m r
   promise s m r q = subst (HiddenPromise (judge t) z s m) (sym q) (hidden-meets t z s m)
 
-  pub hidden-refused : (numberOf (c .refusal) ≡ 0 → ⊥) → (s m : ℕ) → HiddenPromise (judge t) z s m (record { refusal = c .refusal; hidden = 0 })
-  hidden-refused n s m = promise s m (record { refusal = c .refusal; hidden = 0 }) (go (judge t) refl)
+  pub hidden-refused : (r : Refusal) → judge t ≡ unfit r → (s m : ℕ) → HiddenPromise (judge t) z s m (record { refusal = r; hidden = 0 })
+  hidden-refused r e s m = promise s m (record { refusal = r; hidden = 0 }) (rw e (hidden-unfit blankGame z s m r))
     where
-      go : (v : Verdict) → judge t ≡ v → record { refusal = c .refusal; hidden = 0 } ≡ hiddenFrom (judge t) z s m
-      go (unfit r) q = rw q (ap (λ (x : Consulted). record { refusal = x .refusal; hidden = 0 }) (rw q at e) ∙ hidden-unfit blankGame z s m r)
-        where
-          blankGame : Game
-          blankGame = record { claim = 0; seats = 0; chance = 0; fluents = 0; moves = 0; percepts = 0; atoms = []; clauses = [] }
-      go (fit G) q = absurd (n (ap (λ (x : Consulted). numberOf (x .refusal)) (rw q at e)))
+      blankGame : Game
+      blankGame = record { claim = 0; seats = 0; chance = 0; fluents = 0; moves = 0; percepts = 0; atoms = []; clauses = [] }
 
-  pub hidden-accepted : numberOf (c .refusal) ≡ 0 → (s m : ℕ) (r : Looked) → ((G : Game) → Accepted G → c ≡ foundIn G (reachOf G z) → r ≡ hiddenFrom (fit G) z s m) → HiddenPromise (judge t) z s m r
-  hidden-accepted n s m r f = let a = tracing n in promise s m r (rw (a .judged) (f (a .game) (a .ok) (a .is)))
+  pub hidden-accepted : (c : Consulted) → Accepts (judge t) (λ G. reachOf G z) c → (s m : ℕ) (r : Looked) → ((G : Game) → Accepted G → c ≡ foundIn G (reachOf G z) → r ≡ hiddenFrom (fit G) z s m) → HiddenPromise (judge t) z s m r
+  hidden-accepted c a s m r f = promise s m r (rw (a .verdict) (f (a .game) (accepted t (a .game) (a .verdict)) (a .is)))

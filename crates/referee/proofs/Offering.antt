@@ -11,21 +11,20 @@ use Rattle.gdl.specs.Game.{Game}
 use Rattle.gdl.specs.Flags.{on, blank}
 use Rattle.gdl.specs.Computed.{model}
 use Rattle.rules.specs.Accepted.{Accepted}
+use Rattle.rules.proofs.Accepting.{accepted}
 use Rattle.session.specs.Shape.{shaped, limitsOf}
 use Rattle.session.specs.declared.Session.{Session}
 use Rattle.session.specs.declared.shape.Limits.{Limits}
 use Rattle.truth.specs.Marks.{marksOf}
-use Rattle.verdict.specs.Consulted.{foundIn, consulted}
-use Rattle.verdict.specs.declared.Consulted.{Consulted}
+use Rattle.verdict.specs.Consulted.{Consulted, foundIn, Accepts}
 use Rattle.calls.specs.Position.{over, legal}
-use Rattle.refusals.specs.Refusal.{numberOf}
 use Rattle.refusals.specs.declared.Refusal.{Refusal}
 use Rattle.rules.specs.Verdict.{unfit, fit}
 use Rattle.rules.specs.Judged.{judge}
 use Rattle.calls.specs.declared.Moved.{Moved}
 use Rattle.calls.specs.Calls.{chosen, offer}
 use Rattle.calls.proofs.Returns.{offer-unfit}
-use Rattle.referee.proofs.Asking.{accepting, limits-are, over-mark, legal-mark}
+use Rattle.referee.proofs.Asking.{limits-are, over-mark, legal-mark}
 
 -- what the limits of a header are
 abbrev pub Headed : Consulted → Limits → Type 0
@@ -106,8 +105,7 @@ offer-refused t r σ s m e = rw e (offer-unfit blankGame σ s m r)
     blankGame : Game
     blankGame = record { claim = 0; seats = 0; chance = 0; fluents = 0; moves = 0; percepts = 0; atoms = []; clauses = [] }
 
-pub offer-accepted : (t : List ℕ) (c : Consulted) (pos ch : List ℕ) → c ≡ consulted (judge t) pos ch → numberOf (c .refusal) ≡ 0 → ch ≡ blank 8 → (s m : ℕ) (r : Moved) (σ : Session)
+pub offer-accepted : (t : List ℕ) (c : Consulted) (pos ch : List ℕ) → Accepts (judge t) (λ G. model G pos ch) c → ch ≡ blank 8 → (s m : ℕ) (r : Moved) (σ : Session)
     → ((G : Game) → Accepted G → c ≡ foundIn G (model G pos (blank 8)) → r ≡ offer (fit G) σ s m) → r ≡ offer (judge t) σ s m
-offer-accepted t c pos ch e z h s m r σ f =
-    let a = accepting t c pos ch e z in
-    rw (a .judged) (f (a .game) (a .ok) (a .is ∙ ap (λ (x : List ℕ). foundIn (a .game) (model (a .game) pos x)) h))
+offer-accepted t c pos ch a h s m r σ f =
+    rw (a .verdict) (f (a .game) (accepted t (a .game) (a .verdict)) (a .is ∙ ap (λ (x : List ℕ). foundIn (a .game) (model (a .game) pos x)) h))

@@ -22,13 +22,12 @@ use Rattle.rules.specs.Verdict.{Verdict, unfit, fit}
 use Rattle.rules.specs.Judged.{judge}
 use Rattle.rules.specs.Limits.{Limits, firstEnd, secondEnd}
 use Rattle.rules.specs.Accepted.{Accepted}
-use Rattle.refusals.specs.Refusal.{numberOf}
+use Rattle.rules.proofs.Accepting.{accepted}
 use Rattle.session.specs.Shape.{fluentFits, blankSession}
 use Rattle.session.specs.declared.Session.{Session}
 use Rattle.truth.specs.Marks.{isAt, marksOf}
-use Rattle.verdict.specs.Consulted.{examined, foundIn, consulted}
+use Rattle.verdict.specs.Consulted.{Consulted, examined, foundIn, Accepts}
 use Rattle.verdict.specs.declared.Examined.{Examined}
-use Rattle.verdict.specs.declared.Consulted.{Consulted}
 use Rattle.calls.specs.declared.Claimed.{Claimed}
 use Rattle.calls.specs.declared.Moved.{Moved}
 use Rattle.calls.specs.Position.{atomIn, still, opened}
@@ -37,7 +36,7 @@ use Rattle.calls.specs.Promises.{CheckPromise}
 use Rattle.calls.proofs.Meeting.{check-meets}
 use Rattle.calls.proofs.Returns.{open-unfit, open-fit, check-unfit, check-fit, claim-unfit, claim-fit}
 use Rattle.referee.proofs.Reading.{thin-at, fits, only-fitting}
-use Rattle.referee.proofs.Asking.{accepting, empty-is}
+use Rattle.referee.proofs.Asking.{empty-is}
 use Rattle.referee.proofs.Offering.{MarksIn}
 
 -- ---- check and claim
@@ -106,15 +105,15 @@ module _ (G : Game) (ok : Accepted G) (X : Atoms) (k : ℕ) (thin : secondEnd G 
 pub open-refused : (t : List ℕ) (r : Refusal) (σ : Session) → judge t ≡ unfit r → σ ≡ blankSession → _≡_ {A = Moved} (record { refusal = r; session = σ }) (openGame (judge t))
 open-refused t r σ e h = rw (e, h) (open-unfit r)
 
-module _ (t : List ℕ) (c : Consulted) (pos ch : List ℕ) (e : c ≡ consulted (judge t) pos ch) (z : numberOf (c .refusal) ≡ 0) (hp : pos ≡ blank 512) (hc : ch ≡ blank 8) where
+module _ (t : List ℕ) (c : Consulted) (pos ch : List ℕ) (a : Accepts (judge t) (λ G. model G pos ch) c) (hp : pos ≡ blank 512) (hc : ch ≡ blank 8) where
   pub open-accepted : (marks position choices percepts : List ℕ) → MarksIn c 2 1 marks → position ≡ take 512 marks → choices ≡ blank 8 → percepts ≡ blank 2048
       → _≡_ {A = Moved} (record { refusal = Success; session = record { position = position; choices = choices; percepts = percepts; round = 0 } }) (openGame (judge t))
   unfolding opened
   open-accepted marks position choices percepts em ep ec es =
-      let a = accepting t c pos ch e z in
       let G : Game = a .game in
+      let ok : Accepted G = accepted t G (a .verdict) in
       let M : model G pos ch ≡ still G [] = ap (λ (x : List ℕ). model G x ch) hp ∙ (ap (λ (x : List ℕ). model G (blank 512) x) hc ∙ empty-is G) in
-      let m : marks ≡ marksOf 2 1 (G .atoms) (on (model G pos ch)) = em G (model G pos ch) (a .is) (a .ok .limits .atoms) in
+      let m : marks ≡ marksOf 2 1 (G .atoms) (on (model G pos ch)) = em G (model G pos ch) (a .is) (ok .limits .atoms) in
       let p : position ≡ flags 512 (λ f. fluentFits G f && atomIn G (on (still G [])) initKind f 0) =
-      ep ∙ (position-is G (a .ok) (on (model G pos ch)) 2 (omega arith) refl marks m ∙ ap (λ (l : List ℕ). flags 512 (λ f. fluentFits G f && atomIn G (on l) initKind f 0)) M) in
-      rw (a .judged, p, ec, es) (open-fit G)
+      ep ∙ (position-is G ok (on (model G pos ch)) 2 (omega arith) refl marks m ∙ ap (λ (l : List ℕ). flags 512 (λ f. fluentFits G f && atomIn G (on l) initKind f 0)) M) in
+      rw (a .verdict, p, ec, es) (open-fit G)

@@ -21,20 +21,20 @@ use Rattle.gdl.proofs.Walks.{flags-same}
 use Rattle.rules.specs.Verdict.{unfit, fit}
 use Rattle.rules.specs.Judged.{judge}
 use Rattle.rules.specs.Accepted.{Accepted}
+use Rattle.rules.proofs.Accepting.{accepted}
 use Rattle.session.specs.Shape.{fluentFits, perceptFits, shaped}
 use Rattle.session.specs.declared.Session.{Session}
 use Rattle.session.specs.declared.shape.Limits.{Limits}
 use Rattle.session.proofs.Shapes.{shaped-parts, choices-mean}
 use Rattle.truth.specs.Marks.{isAt, marksOf}
-use Rattle.verdict.specs.Consulted.{foundIn, consulted}
-use Rattle.verdict.specs.declared.Consulted.{Consulted}
+use Rattle.verdict.specs.Consulted.{Consulted, foundIn, Accepts}
 use Rattle.calls.specs.Position.{atomIn, moved, played}
 use Rattle.calls.specs.Calls.{unchosen, illegal, play}
 use Rattle.referee.specs.Asked.{Asked}
 use Rattle.calls.specs.declared.Moved.{Moved}
 use Rattle.referee.specs.Lowest.{LowestOr, Chosen, lacks, wrongs}
 use Rattle.referee.proofs.Reading.{wide-at, fits, only-fitting}
-use Rattle.referee.proofs.Asking.{limits-are, legal-mark, accepting}
+use Rattle.referee.proofs.Asking.{limits-are, legal-mark}
 use Rattle.calls.proofs.Returns.{play-unfit}
 use Rattle.referee.proofs.Offering.{Headed, MarksIn}
 use Rattle.referee.proofs.Opening.{position-is}
@@ -156,6 +156,6 @@ play-refused t r σ e = rw e (play-unfit blankGame σ r)
     blankGame : Game
     blankGame = record { claim = 0; seats = 0; chance = 0; fluents = 0; moves = 0; percepts = 0; atoms = []; clauses = [] }
 
-pub play-accepted : (t : List ℕ) (c : Consulted) (pos ch : List ℕ) → c ≡ consulted (judge t) pos ch → numberOf (c .refusal) ≡ 0 → (r : Moved) (σ : Session)
+pub play-accepted : (t : List ℕ) (c : Consulted) (pos ch : List ℕ) → Accepts (judge t) (λ G. model G pos ch) c → (r : Moved) (σ : Session)
     → ((G : Game) → Accepted G → c ≡ foundIn G (model G pos ch) → r ≡ play (fit G) σ) → r ≡ play (judge t) σ
-play-accepted t c pos ch e z r σ f = let a = accepting t c pos ch e z in rw (a .judged) (f (a .game) (a .ok) (a .is))
+play-accepted t c pos ch a r σ f = rw (a .verdict) (f (a .game) (accepted t (a .game) (a .verdict)) (a .is))

@@ -7,7 +7,6 @@ use native.Mathlib.Omega.{arith}
 use lib.Dec.{T, eqb, leb, ltb}
 use lib.ListN.{length, getD}
 use borrow.Author.Tests.{lt-ltb, le-ltb}
-use Rattle.refusals.specs.Refusal.{numberOf}
 use Rattle.refusals.specs.declared.Refusal.{Refusal}
 use Rattle.refusals.specs.declared.Refusal.the-variants.{Success, RoomTooShort}
 use Rattle.numbers.specs.Writing.{written}
@@ -17,6 +16,7 @@ use Rattle.gdl.specs.Lists.{those}
 use Rattle.gdl.specs.Computed.{model}
 use Rattle.gdl.proofs.Walks.{those-same}
 use Rattle.rules.specs.Accepted.{Accepted}
+use Rattle.rules.proofs.Accepting.{accepted}
 use Rattle.rules.specs.Verdict.{unfit, fit}
 use Rattle.rules.specs.Judged.{judge}
 use Rattle.session.specs.Shape.{shaped, limitsOf}
@@ -26,8 +26,7 @@ use Rattle.session.proofs.Shapes.{shaped-parts}
 use Rattle.message.specs.Message.{from, messageOf, Fits}
 use Rattle.message.specs.Message as M
 use Rattle.message.specs.declared.Sheet.{Sheet}
-use Rattle.verdict.specs.Consulted.{foundIn, consulted}
-use Rattle.verdict.specs.declared.Consulted.{Consulted}
+use Rattle.verdict.specs.Consulted.{Consulted, foundIn, Accepts}
 use Rattle.calls.specs.declared.Sent.{Sent}
 use Rattle.referee.specs.Asked.{Asked}
 use Rattle.calls.specs.Position.{over, legal, goal}
@@ -35,7 +34,7 @@ use Rattle.calls.specs.Message.{counted, perceptsOf, legalOf, goalsOf, messageN
 use Rattle.calls.specs.Calls.{message}
 use Rattle.referee.proofs.Writing.{message-written}
 use Rattle.calls.proofs.Returns.{message-unfit}
-use Rattle.referee.proofs.Asking.{accepting, asked-of, limits-are, over-mark, legal-mark, goal-mark}
+use Rattle.referee.proofs.Asking.{asked-of, limits-are, over-mark, legal-mark, goal-mark}
 use Rattle.referee.proofs.Offering.{Headed, MarksIn, seat-few}
 
 module _ (σ : Session) (c : Consulted) (l : Limits) (h : Headed c l) (G : Game) (ok : Accepted G) (e : c ≡ foundIn G (model G (σ .position) (blank 8))) where
@@ -93,8 +92,8 @@ round-fits G σ e = shaped-parts G σ (rw e tt) .round
 
 -- ---- the whole call
 
-pub asked-blank : (t : List ℕ) (c : Consulted) (pos ch : List ℕ) → c ≡ consulted (judge t) pos ch → numberOf (c .refusal) ≡ 0 → ch ≡ blank 8 → Asked c pos (blank 8)
-asked-blank t c pos ch e z h = subst (λ (x : List ℕ). Asked c pos x) h (asked-of t c pos ch e z)
+pub asked-blank : (t : List ℕ) {c : Consulted} (pos ch : List ℕ) → Accepts (judge t) (λ G. model G pos ch) c → ch ≡ blank 8 → Asked c pos (blank 8)
+asked-blank t {c} pos ch a h = subst (λ (x : List ℕ). Asked c pos x) h (asked-of t pos ch a)
 
 pub message-refused : (t : List ℕ) (r : Refusal) (σ : Session) (z : ℕ) (room : List ℕ) → judge t ≡ unfit r → (record { refusal = r; length = 0 }, room) ≡ message (judge t) σ z room
 message-refused t r σ z room e = rw e (message-unfit blankGame σ z room r)
@@ -102,8 +101,7 @@ message-refused t r σ z room e = rw e (message-unfit blankGame σ z room r)
     blankGame : Game
     blankGame = record { claim = 0; seats = 0; chance = 0; fluents = 0; moves = 0; percepts = 0; atoms = []; clauses = [] }
 
-pub message-accepted : (t : List ℕ) (c : Consulted) (pos ch : List ℕ) → c ≡ consulted (judge t) pos ch → numberOf (c .refusal) ≡ 0 → ch ≡ blank 8 → (z : ℕ) (a : Sent × List ℕ) (σ : Session) (room : List ℕ)
+pub message-accepted : (t : List ℕ) (c : Consulted) (pos ch : List ℕ) → Accepts (judge t) (λ G. model G pos ch) c → ch ≡ blank 8 → (z : ℕ) (a : Sent × List ℕ) (σ : Session) (room : List ℕ)
     → ((G : Game) → Accepted G → c ≡ foundIn G (model G pos (blank 8)) → a ≡ message (fit G) σ z room) → a ≡ message (judge t) σ z room
-message-accepted t c pos ch e z h s a σ room f =
-    let w = accepting t c pos ch e z in
-    rw (w .judged) (f (w .game) (w .ok) (w .is ∙ ap (λ (x : List ℕ). foundIn (w .game) (model (w .game) pos x)) h))
+message-accepted t c pos ch w h s a σ room f =
+    rw (w .verdict) (f (w .game) (accepted t (w .game) (w .verdict)) (w .is ∙ ap (λ (x : List ℕ). foundIn (w .game) (model (w .game) pos x)) h))

@@ -9,7 +9,6 @@ use lib.Dec.{eqb, leb, ltb}
 use lib.ListN.{length, getD, set, take, drop, length-set, length-append, length-replicate}
 use lib.Seq.{take-suc, drop-cons, set-at, length-take-le, take-append-seam}
 use borrow.Author.Tests.{lt-ltb, le-ltb, not-true, not-false}
-use Rattle.refusals.specs.Refusal.{numberOf}
 use Rattle.refusals.specs.declared.Refusal.{Refusal}
 use Rattle.refusals.specs.declared.Refusal.the-variants.{Success, BadShape, RoomTooShort}
 use Rattle.gdl.specs.Game.{Game}
@@ -18,19 +17,18 @@ use Rattle.gdl.specs.Lists.{those, every}
 use Rattle.gdl.specs.Computed.{model}
 use Rattle.gdl.proofs.Modelled.{model-length}
 use Rattle.rules.specs.Accepted.{Accepted}
+use Rattle.rules.proofs.Accepting.{accepted}
 use Rattle.rules.specs.Verdict.{Verdict, unfit, fit}
 use Rattle.rules.specs.Judged.{judge}
 use Rattle.session.specs.Shape.{flagFits, below, choiceWithin, positionShaped, choicesShaped, limitsOf}
 use Rattle.session.specs.declared.shape.Limits.{Limits}
-use Rattle.verdict.specs.Consulted.{foundIn, consulted}
-use Rattle.verdict.specs.declared.Consulted.{Consulted}
+use Rattle.verdict.specs.Consulted.{Consulted, foundIn, Accepts}
 use Rattle.calls.specs.Position.{moved}
 use Rattle.referee.specs.Asked.{Asked}
 use Rattle.calls.specs.Calls.{truth}
 use Rattle.calls.specs.Promises.{ModelPromise}
 use Rattle.calls.proofs.Meeting.{model-meets}
 use Rattle.calls.proofs.Returns.{model-unfit, model-bad-shape, model-no-room, model-done}
-use Rattle.referee.proofs.Asking.{accepting, refusing}
 use Rattle.referee.proofs.Offering.{Headed}
 
 -- ---- flags into lent room
@@ -115,18 +113,18 @@ module _ (c : Consulted) (l : Limits) (h : Headed c l) (pos ch room : List ℕ) 
 
 -- ---- the whole model call
 
-module _ (t : List ℕ) (c : Consulted) (pos ch room : List ℕ) (e : c ≡ consulted (judge t) pos ch) where
+module _ (t pos ch room : List ℕ) where
   promise : (a : Refusal × List ℕ) → a ≡ truth (judge t) pos ch room → ModelPromise (judge t) pos ch room a
   promise a q = subst (ModelPromise (judge t) pos ch room) (sym q) (model-meets t pos ch room)
 
-  pub model-refused : (numberOf (c .refusal) ≡ 0 → ⊥) → ModelPromise (judge t) pos ch room (c .refusal, room)
-  model-refused n = promise (c .refusal, room) (rw (refusing t c pos ch e n) (model-unfit blankGame pos ch room (c .refusal)))
+  pub model-refused : (r : Refusal) → judge t ≡ unfit r → ModelPromise (judge t) pos ch room (r, room)
+  model-refused r e = promise (r, room) (rw e (model-unfit blankGame pos ch room r))
     where
       blankGame : Game
       blankGame = record { claim = 0; seats = 0; chance = 0; fluents = 0; moves = 0; percepts = 0; atoms = []; clauses = [] }
 
-  pub model-accepted : numberOf (c .refusal) ≡ 0 → (r : Refusal) (room′ : List ℕ) → ((G : Game) → Accepted G → c ≡ foundIn G (model G pos ch) → (r, room′) ≡ truth (fit G) pos ch room) → ModelPromise (judge t) pos ch room (r, room′)
-  model-accepted z r room′ f = let a = accepting t c pos ch e z in promise (r, room′) (rw (a .judged) (f (a .game) (a .ok) (a .is)))
+  pub model-accepted : (c : Consulted) → Accepts (judge t) (λ G. model G pos ch) c → (r : Refusal) (room′ : List ℕ) → ((G : Game) → Accepted G → c ≡ foundIn G (model G pos ch) → (r, room′) ≡ truth (fit G) pos ch room) → ModelPromise (judge t) pos ch room (r, room′)
+  model-accepted c a r room′ f = promise (r, room′) (rw (a .verdict) (f (a .game) (accepted t (a .game) (a .verdict)) (a .is)))
 
 pub flags-1024 : {c : Consulted} {pos ch : List ℕ} → Asked c pos ch → length (c .flags) ≡ 1024
 flags-1024 {c} {pos} {ch} a =

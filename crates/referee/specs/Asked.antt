@@ -5,8 +5,7 @@ use Prim.Native.Nat.{ℕ}
 use Rattle.gdl.specs.Game.{Game}
 use Rattle.gdl.specs.Computed.{model, reachOf}
 use Rattle.rules.specs.Accepted.{Accepted}
-use Rattle.verdict.specs.Consulted.{foundIn}
-use Rattle.verdict.specs.declared.Consulted.{Consulted}
+use Rattle.verdict.specs.Consulted.{Consulted, foundIn}
 
 pub record Asked (found : Consulted) (pos ch : List ℕ) : Type 0 where
   pub game : Game

@@ -13,9 +13,14 @@ use calls::Sent;
 use gdl::Move;
 use gdl::Seat;
 use refusals::Refusal;
-use refusals::number_of;
 use session::Session;
 use session::bytes::blank_session;
+use table::tables::no_atoms;
+use verdict::Learnt;
+use verdict::consult;
+use verdict::marks_in;
+use verdict::no_flags;
+use verdict::trace;
 ghost use mathlib.Core.Path.{_≡_};
 ghost use Rattle.rules.specs.Judged.{judge};
 ghost use Rattle.calls.specs.Calls.{claim, openGame, offer, play, message};
@@ -45,23 +50,37 @@ pub fn claim(table: &[u8]) -> Claimed
 pub fn open_game(table: &[u8]) -> Moved
     ensures { λ r. ⌜ r ≡ openGame (judge (now (table .entry))) ⌝ }
 {
-    let found = verdict::consult(table, positions::no_fluents(), positions::no_choices());
-    let refusal = found.refusal;
-    if number_of(refusal) != 0 {
-        return Moved {
+    let position = positions::no_fluents();
+    let choices = positions::no_choices();
+    let mut kinds = no_atoms();
+    let mut firsts = no_atoms();
+    let mut seconds = no_atoms();
+    let mut flags = no_flags();
+    match consult(
+        table,
+        &position,
+        &choices,
+        &mut kinds,
+        &mut firsts,
+        &mut seconds,
+        &mut flags,
+    ) {
+        Learnt::Refused(refusal) => Moved {
             refusal,
             session: blank_session(),
-        };
-    }
-    let marks = verdict::marks_in(found, 2, 1);
-    Moved {
-        refusal: Refusal::Success,
-        session: Session {
-            position: positions::first_marks(marks),
-            choices: positions::no_choices(),
-            percepts: positions::no_percepts(),
-            round: 0,
         },
+        Learnt::Accepted(header) => {
+            let marks = marks_in(header, &kinds, &firsts, &seconds, &flags, 2, 1);
+            Moved {
+                refusal: Refusal::Success,
+                session: Session {
+                    position: positions::first_marks(&marks),
+                    choices,
+                    percepts: positions::no_percepts(),
+                    round: 0,
+                },
+            }
+        }
     }
 }
 
@@ -70,36 +89,93 @@ pub fn offer(table: &[u8], session: Session, seat: Seat, choice: Move) -> Moved
     ensures { λ r. ⌜ r ≡ offer (judge (now (table .entry))) session (seat .0) (choice .0) ⌝ }
 {
     let position = session.position;
-    let found = verdict::consult(table, position, positions::no_choices());
-    let refusal = found.refusal;
-    if number_of(refusal) != 0 {
-        return Moved { refusal, session };
+    let choices = positions::no_choices();
+    let mut kinds = no_atoms();
+    let mut firsts = no_atoms();
+    let mut seconds = no_atoms();
+    let mut flags = no_flags();
+    match consult(
+        table,
+        &position,
+        &choices,
+        &mut kinds,
+        &mut firsts,
+        &mut seconds,
+        &mut flags,
+    ) {
+        Learnt::Refused(refusal) => Moved { refusal, session },
+        Learnt::Accepted(header) => moves::offer_fit(
+            header,
+            &kinds,
+            &firsts,
+            &seconds,
+            &flags,
+            session,
+            seat,
+            choice,
+        ),
     }
-    moves::offer_fit(found, session, seat, choice)
 }
 
 // "A move of any seat is hidden from the first seat (the call answers 1, else 0)": the asking seat, the moving seat, its move.
 pub fn hidden(table: &[u8], asking: Seat, moving: Seat, choice: Move) -> Looked
     ensures { λ r. ⌜ HiddenPromise (judge (now (table .entry))) (asking .0) (moving .0) (choice .0) r ⌝ }
 {
-    let found = verdict::trace(table, asking.0);
-    let refusal = found.refusal;
-    if number_of(refusal) != 0 {
-        return Looked { refusal, hidden: 0 };
+    let mut kinds = no_atoms();
+    let mut firsts = no_atoms();
+    let mut seconds = no_atoms();
+    let mut flags = no_flags();
+    match trace(
+        table,
+        asking.0,
+        &mut kinds,
+        &mut firsts,
+        &mut seconds,
+        &mut flags,
+    ) {
+        Learnt::Refused(refusal) => Looked { refusal, hidden: 0 },
+        Learnt::Accepted(header) => looks::hidden_fit(
+            header,
+            &kinds,
+            &firsts,
+            &seconds,
+            &flags,
+            asking,
+            moving,
+            choice,
+        ),
     }
-    looks::hidden_fit(found, asking, moving, choice)
 }
 
 // The model call: "one flag for each atom, 0 or 1, into the first A places of lent room; later places stay".
 pub fn model(table: &[u8], position: [u8; 512], choices: [u16; 8], room: &mut [u8]) -> Refusal
     ensures { λ r. ⌜ ModelPromise (judge (now (table .entry))) position choices (now (room .entry)) (r, now (room .exit)) ⌝ }
 {
-    let found = verdict::consult(table, position, choices);
-    let refusal = found.refusal;
-    if number_of(refusal) != 0 {
-        return refusal;
+    let mut kinds = no_atoms();
+    let mut firsts = no_atoms();
+    let mut seconds = no_atoms();
+    let mut flags = no_flags();
+    match consult(
+        table,
+        &position,
+        &choices,
+        &mut kinds,
+        &mut firsts,
+        &mut seconds,
+        &mut flags,
+    ) {
+        Learnt::Refused(refusal) => refusal,
+        Learnt::Accepted(header) => tells::model_fit(
+            header,
+            &kinds,
+            &firsts,
+            &seconds,
+            &flags,
+            position,
+            choices,
+            room,
+        ),
     }
-    tells::model_fit(found, position, choices, room)
 }
 
 // The next position, once every seat has chosen.
@@ -108,12 +184,29 @@ pub fn play(table: &[u8], session: Session) -> Moved
 {
     let position = session.position;
     let choices = session.choices;
-    let found = verdict::consult(table, position, choices);
-    let refusal = found.refusal;
-    if number_of(refusal) != 0 {
-        return Moved { refusal, session };
+    let mut kinds = no_atoms();
+    let mut firsts = no_atoms();
+    let mut seconds = no_atoms();
+    let mut flags = no_flags();
+    match consult(
+        table,
+        &position,
+        &choices,
+        &mut kinds,
+        &mut firsts,
+        &mut seconds,
+        &mut flags,
+    ) {
+        Learnt::Refused(refusal) => Moved { refusal, session },
+        Learnt::Accepted(header) => plays::play_fit(
+            header,
+            &kinds,
+            &firsts,
+            &seconds,
+            &flags,
+            session,
+        ),
     }
-    plays::play_fit(found, session)
 }
 
 // The message of a seat, in house numbers, into lent room.
@@ -121,10 +214,30 @@ pub fn message(table: &[u8], session: Session, seat: Seat, room: &mut [u8]) -> S
     ensures { λ r. ⌜ (r, now (room .exit)) ≡ message (judge (now (table .entry))) session (seat .0) (now (room .entry)) ⌝ }
 {
     let position = session.position;
-    let found = verdict::consult(table, position, positions::no_choices());
-    let refusal = found.refusal;
-    if number_of(refusal) != 0 {
-        return Sent { refusal, length: 0 };
+    let choices = positions::no_choices();
+    let mut kinds = no_atoms();
+    let mut firsts = no_atoms();
+    let mut seconds = no_atoms();
+    let mut flags = no_flags();
+    match consult(
+        table,
+        &position,
+        &choices,
+        &mut kinds,
+        &mut firsts,
+        &mut seconds,
+        &mut flags,
+    ) {
+        Learnt::Refused(refusal) => Sent { refusal, length: 0 },
+        Learnt::Accepted(header) => tells::message_fit(
+            header,
+            &kinds,
+            &firsts,
+            &seconds,
+            &flags,
+            session,
+            seat,
+            room,
+        ),
     }
-    tells::message_fit(found, session, seat, room)
 }

@@ -6,7 +6,7 @@ use gdl::Seat;
 use refusals::Refusal;
 use session::Session;
 use session::shape::shaped;
-use verdict::Consulted;
+use table::header::Header;
 use verdict::marks_in;
 ghost use mathlib.Core.Path.{_≡_};
 ghost use Rattle.gdl.specs.Game.{Game};
@@ -14,23 +14,32 @@ ghost use Rattle.gdl.specs.Flags.{blank};
 ghost use Rattle.gdl.specs.Computed.{model};
 ghost use Rattle.rules.specs.Accepted.{Accepted};
 ghost use Rattle.rules.specs.Verdict.{fit};
-ghost use Rattle.verdict.specs.Consulted.{foundIn};
+ghost use Rattle.verdict.specs.Consulted.{found, foundIn};
 ghost use Rattle.calls.specs.Calls.{offer};
 ghost use Rattle.referee.specs.Asked.{Asked};
 
 // "offer 19, 15, 16, 17, 18", after 21.
-pub fn offer_fit(found: Consulted, session: Session, seat: Seat, choice: Move) -> Moved
-    requires { ⌜ Asked found (session .position) (blank 8) ⌝ }
-    ensures { λ r. ⌜ ((G : Game) → Accepted G → found ≡ foundIn G (model G (session .position) (blank 8)) → r ≡ offer (fit G) session (seat .0) (choice .0)) ⌝ }
+pub fn offer_fit(
+    header: Header,
+    kinds: &[u16; 1024],
+    firsts: &[u16; 1024],
+    seconds: &[u16; 1024],
+    flags: &[u8; 1024],
+    session: Session,
+    seat: Seat,
+    choice: Move,
+) -> Moved
+    requires { ⌜ Asked (found header (now kinds) (now firsts) (now seconds) (now flags)) (session .position) (blank 8) ⌝ }
+    ensures { λ r. ⌜ ((G : Game) → Accepted G → found header (now (kinds .entry)) (now (firsts .entry)) (now (seconds .entry)) (now (flags .entry)) ≡ foundIn G (model G (session .position) (blank 8)) → r ≡ offer (fit G) session (seat .0) (choice .0)) ⌝ }
 {
-    let limits = limits_of(found.header);
+    let limits = limits_of(header);
     if !shaped(session, limits) {
         return Moved {
             refusal: Refusal::BadShape,
             session,
         };
     }
-    let ends = marks_in(found, 8, 1);
+    let ends = marks_in(header, kinds, firsts, seconds, flags, 8, 1);
     if ends[0] == 1 {
         return Moved {
             refusal: Refusal::GameOver,
@@ -57,7 +66,7 @@ pub fn offer_fit(found: Consulted, session: Session, seat: Seat, choice: Move) -
             session,
         };
     }
-    let legal = marks_in(found, 5, 256);
+    let legal = marks_in(header, kinds, firsts, seconds, flags, 5, 256);
     if legal[at * 256 + choice.0 as usize] != 1 {
         return Moved {
             refusal: Refusal::NotLegal(0),

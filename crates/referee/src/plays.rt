@@ -6,14 +6,14 @@ use calls::Moved;
 use refusals::Refusal;
 use session::Session;
 use session::shape::shaped;
-use verdict::Consulted;
+use table::header::Header;
 use verdict::marks_in;
 ghost use mathlib.Core.Path.{_≡_};
 ghost use Rattle.gdl.specs.Game.{Game};
 ghost use Rattle.gdl.specs.Computed.{model};
 ghost use Rattle.rules.specs.Accepted.{Accepted};
 ghost use Rattle.rules.specs.Verdict.{fit};
-ghost use Rattle.verdict.specs.Consulted.{foundIn};
+ghost use Rattle.verdict.specs.Consulted.{found, foundIn};
 ghost use Rattle.calls.specs.Calls.{play};
 ghost use Rattle.referee.specs.Asked.{Asked};
 ghost use Prim.Native.Nat.{_≤_};
@@ -35,9 +35,9 @@ fn first_unchosen(choices: [u16; 8], seats: u16) -> u16
 }
 
 // The lowest seat whose choice is not legal, or the number of seats.
-fn first_illegal(choices: [u16; 8], legal: [u8; 2048], seats: u16) -> u16
+fn first_illegal(choices: [u16; 8], legal: &[u8; 2048], seats: u16) -> u16
     requires { ⌜ Chosen choices seats ⌝ }
-    ensures { λ r. ⌜ LowestOr (wrongs choices legal) seats r ⌝ }
+    ensures { λ r. ⌜ LowestOr (wrongs choices (now (legal .entry))) seats r ⌝ }
 {
     let mut s: u16 = 0;
     while s < seats {
@@ -57,15 +57,22 @@ fn kept(refusal: Refusal, session: Session) -> Moved
 }
 
 // "play 19, 20, 18, 22", after 21. What was found is true with the joint choice; by rule 10 that changes neither the end nor what is legal.
-pub fn play_fit(found: Consulted, session: Session) -> Moved
-    requires { ⌜ Asked found (session .position) (session .choices) ⌝ }
-    ensures { λ r. ⌜ ((G : Game) → Accepted G → found ≡ foundIn G (model G (session .position) (session .choices)) → r ≡ play (fit G) session) ⌝ }
+pub fn play_fit(
+    header: Header,
+    kinds: &[u16; 1024],
+    firsts: &[u16; 1024],
+    seconds: &[u16; 1024],
+    flags: &[u8; 1024],
+    session: Session,
+) -> Moved
+    requires { ⌜ Asked (found header (now kinds) (now firsts) (now seconds) (now flags)) (session .position) (session .choices) ⌝ }
+    ensures { λ r. ⌜ ((G : Game) → Accepted G → found header (now (kinds .entry)) (now (firsts .entry)) (now (seconds .entry)) (now (flags .entry)) ≡ foundIn G (model G (session .position) (session .choices)) → r ≡ play (fit G) session) ⌝ }
 {
-    let limits = limits_of(found.header);
+    let limits = limits_of(header);
     if !shaped(session, limits) {
         return kept(Refusal::BadShape, session);
     }
-    let ends = marks_in(found, 8, 1);
+    let ends = marks_in(header, kinds, firsts, seconds, flags, 8, 1);
     if ends[0] == 1 {
         return kept(Refusal::GameOver, session);
     }
@@ -74,19 +81,19 @@ pub fn play_fit(found: Consulted, session: Session) -> Moved
     if lacking < limits.seats {
         return kept(Refusal::NoChoice(lacking as usize), session);
     }
-    let legal = marks_in(found, 5, 256);
-    let wrong = first_illegal(choices, legal, limits.seats);
+    let legal = marks_in(header, kinds, firsts, seconds, flags, 5, 256);
+    let wrong = first_illegal(choices, &legal, limits.seats);
     if wrong < limits.seats {
         return kept(Refusal::NotLegal(wrong as usize), session);
     }
     if session.round == 65535 {
         return kept(Refusal::LastRound, session);
     }
-    let nexts = marks_in(found, 6, 1);
+    let nexts = marks_in(header, kinds, firsts, seconds, flags, 6, 1);
     let next = Session {
-        position: first_marks(nexts),
+        position: first_marks(&nexts),
         choices: no_choices(),
-        percepts: marks_in(found, 7, 256),
+        percepts: marks_in(header, kinds, firsts, seconds, flags, 7, 256),
         round: session.round + 1,
     };
     Moved {

@@ -2,7 +2,7 @@
 use session::shape::Limits;
 use table::header::Header;
 ghost use mathlib.Core.Path.{_≡_};
-ghost use lib.ListN.{take};
+ghost use lib.ListN.{length, take};
 ghost use Rattle.gdl.specs.Flags.{blank};
 
 pub fn no_fluents() -> [u8; 512]
@@ -36,8 +36,9 @@ pub fn limits_of(header: Header) -> Limits
 }
 
 // The marks of the fluents: a position.
-pub fn first_marks(marks: [u8; 2048]) -> [u8; 512]
-    ensures { λ r. ⌜ r ≡ take 512 marks ⌝ }
+pub fn first_marks(marks: &[u8; 2048]) -> [u8; 512]
+    requires { ⌜ length (now marks) ≡ 2048 ⌝ }
+    ensures { λ r. ⌜ r ≡ take 512 (now (marks .entry)) ⌝ }
 {
     let mut position = no_fluents();
     let mut i: usize = 0;

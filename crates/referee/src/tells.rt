@@ -9,7 +9,7 @@ use session::Session;
 use session::shape::choices_fit;
 use session::shape::position_fits;
 use session::shape::shaped;
-use verdict::Consulted;
+use table::header::Header;
 use verdict::marks_in;
 ghost use mathlib.Core.Path.{_≡_};
 ghost use mathlib.Core.List.{_++_};
@@ -20,7 +20,7 @@ ghost use Rattle.gdl.specs.Flags.{blank};
 ghost use Rattle.gdl.specs.Computed.{model};
 ghost use Rattle.rules.specs.Accepted.{Accepted};
 ghost use Rattle.rules.specs.Verdict.{fit};
-ghost use Rattle.verdict.specs.Consulted.{foundIn};
+ghost use Rattle.verdict.specs.Consulted.{found, foundIn};
 ghost use Rattle.calls.specs.Calls.{truth, message};
 ghost use Rattle.referee.specs.Asked.{Asked};
 
@@ -38,36 +38,48 @@ fn copy_flags(flags: &[u8], n: usize, room: &mut [u8])
 
 // "model 14", after 21.
 pub fn model_fit(
-    found: Consulted,
+    header: Header,
+    kinds: &[u16; 1024],
+    firsts: &[u16; 1024],
+    seconds: &[u16; 1024],
+    flags: &[u8; 1024],
     position: [u8; 512],
     choices: [u16; 8],
     room: &mut [u8],
 ) -> Refusal
-    requires { ⌜ Asked found position choices ⌝ }
-    ensures { λ r. ⌜ ((G : Game) → Accepted G → found ≡ foundIn G (model G position choices) → (r, now (room .exit)) ≡ truth (fit G) position choices (now (room .entry))) ⌝ }
+    requires { ⌜ Asked (found header (now kinds) (now firsts) (now seconds) (now flags)) position choices ⌝ }
+    ensures { λ r. ⌜ ((G : Game) → Accepted G → found header (now (kinds .entry)) (now (firsts .entry)) (now (seconds .entry)) (now (flags .entry)) ≡ foundIn G (model G position choices) → (r, now (room .exit)) ≡ truth (fit G) position choices (now (room .entry))) ⌝ }
 {
-    let limits = limits_of(found.header);
+    let limits = limits_of(header);
     if !position_fits(&position, limits.fluents) {
         return Refusal::BadShape;
     }
     if !choices_fit(&choices, limits.seats, limits.moves) {
         return Refusal::BadShape;
     }
-    let atoms = found.header.sizes.atoms as usize;
+    let atoms = header.sizes.atoms as usize;
     if room.len() < atoms {
         return Refusal::RoomTooShort;
     }
-    let flags = found.flags;
-    copy_flags(&flags, atoms, room);
+    copy_flags(flags, atoms, room);
     Refusal::Success
 }
 
 // "message 15, 14", after 21.
-pub fn message_fit(found: Consulted, session: Session, seat: Seat, room: &mut [u8]) -> Sent
-    requires { ⌜ Asked found (session .position) (blank 8) ⌝ }
-    ensures { λ r. ⌜ ((G : Game) → Accepted G → found ≡ foundIn G (model G (session .position) (blank 8)) → (r, now (room .exit)) ≡ message (fit G) session (seat .0) (now (room .entry))) ⌝ }
+pub fn message_fit(
+    header: Header,
+    kinds: &[u16; 1024],
+    firsts: &[u16; 1024],
+    seconds: &[u16; 1024],
+    flags: &[u8; 1024],
+    session: Session,
+    seat: Seat,
+    room: &mut [u8],
+) -> Sent
+    requires { ⌜ Asked (found header (now kinds) (now firsts) (now seconds) (now flags)) (session .position) (blank 8) ⌝ }
+    ensures { λ r. ⌜ ((G : Game) → Accepted G → found header (now (kinds .entry)) (now (firsts .entry)) (now (seconds .entry)) (now (flags .entry)) ≡ foundIn G (model G (session .position) (blank 8)) → (r, now (room .exit)) ≡ message (fit G) session (seat .0) (now (room .entry))) ⌝ }
 {
-    let limits = limits_of(found.header);
+    let limits = limits_of(header);
     if !shaped(session, limits) {
         return Sent {
             refusal: Refusal::BadShape,
@@ -86,9 +98,9 @@ pub fn message_fit(found: Consulted, session: Session, seat: Seat, room: &mut [u
             length: 0,
         };
     }
-    let ends = marks_in(found, 8, 1);
-    let legal = marks_in(found, 5, 256);
-    let goals = marks_in(found, 9, 256);
+    let ends = marks_in(header, kinds, firsts, seconds, flags, 8, 1);
+    let legal = marks_in(header, kinds, firsts, seconds, flags, 5, 256);
+    let goals = marks_in(header, kinds, firsts, seconds, flags, 9, 256);
     let percepts = session.percepts;
     let sheet = Sheet {
         seat: seat.0,

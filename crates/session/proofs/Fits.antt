@@ -59,12 +59,15 @@ module _ (x : ℕ) where
     | no h ↦ eq-eqb x 0 (omega arith) ∙ sym (le-leb x 0 (omega arith))
   ]
 
+  pub unset : (i width rows columns : ℕ) → x ≡ 0 → true ≡ flagFits (inGrid width rows columns) i x
+  unset i width rows columns h = rw (h, le-leb 0 (bit (inGrid width rows columns i)) (omega arith))
+
   module _ (i width rows columns : ℕ) (may : Bool) (e : may ≡ inGrid width rows columns i) where
     pub may-be : may ≡ true → leb x 1 ≡ flagFits (inGrid width rows columns) i x
     may-be h = rw (← e, h)
 
-    pub may-not : may ≡ false → eqb x 0 ≡ flagFits (inGrid width rows columns) i x
-    may-not h = rw (← e, h) none
+    pub may-not : (x ≡ 0 → ⊥) → may ≡ false → false ≡ flagFits (inGrid width rows columns) i x
+    may-not n h = rw (← e, h, ← none, ne-eqb x 0 n)
 
   pub seat-in : (seats moves s : ℕ) → s < seats → leb x moves ≡ choiceWithin seats moves s x
   seat-in seats moves s h = rw (lt-ltb s seats h)
@@ -72,7 +75,7 @@ module _ (x : ℕ) where
   pub seat-out : (seats moves s : ℕ) → seats ≤ s → eqb x 0 ≡ choiceWithin seats moves s x
   seat-out seats moves s h = rw (le-ltb s seats h) none
 
-pub ruleset elements = (row-in, row-out, may-be, may-not, seat-in, seat-out)
+pub ruleset elements = (row-in, row-out, unset, may-be, may-not, seat-in, seat-out)
 
 -- ---- a position is one row
 

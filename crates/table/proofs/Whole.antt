@@ -4,17 +4,14 @@ use native.Mathlib.Omega.{arith}
 use mathlib.Core.Path.{_≡_, refl, sym, ap, _∙_, subst}
 use mathlib.Core.List.{List}
 use lib.ListN.{length}
-use lib.Seq.{sets}
 use lib.Dec.{ltb}
 use borrow.Author.Tests.{lt-ltb, le-ltb}
 use Rattle.refusals.specs.declared.Refusal.{Refusal}
-use Rattle.refusals.specs.declared.Refusal.the-variants.{Success, NotAbove, BytesAfter, TableTooLong}
+use Rattle.refusals.specs.declared.Refusal.the-variants.{NotAbove, BytesAfter, TableTooLong}
 use Rattle.gdl.specs.Game.{Atom, Clause, Game}
-use Rattle.gdl.specs.Flags.{blank}
-use Rattle.gdl.specs.Layout.{kindsOf, firstsOf, secondsOf}
 use Rattle.table.specs.Parse.{Parse, ok, fault, after, bounded, refuse_if_}
 use Rattle.table.specs.Table.{header, atom, key, atomsFrom, clause, clausesFrom, clauses, game, table}
-use Rattle.table.specs.Says.{fieldSays, headSays, WroteAtoms, AtomsLaid, ClausesLaid, WroteClauses, WroteRest, WroteGame, refusedTable, decoded}
+use Rattle.table.specs.Says.{fieldSays, headSays, WroteAtoms, AtomsLaid, ClausesLaid, WroteClauses, WroteRest, WroteGame, WroteTable}
 use Rattle.table.specs.declared.fields.Field.{Field}
 use Rattle.table.specs.declared.fields.Field.the-variants as F
 use Rattle.table.specs.declared.fields.Item.{Item}
@@ -25,7 +22,8 @@ use Rattle.table.specs.declared.atoms.Records.{Records}
 use Rattle.table.specs.declared.atoms.Records.the-variants as R
 use Rattle.table.specs.declared.tables.Rest.{Rest}
 use Rattle.table.specs.declared.tables.Rest.the-variants as Q
-use Rattle.table.specs.declared.tables.Table.{Table}
+use Rattle.table.specs.declared.tables.Read.{Read}
+use Rattle.table.specs.declared.tables.Read.the-variants as T
 use Rattle.table.proofs.Values.{All, Fine, all-after, any, bounded-fine}
 
 clauses-many : (n a room : ℕ) (s : List ℕ) (at : ℕ) → All (λ cs m. length cs ≡ n) (clausesFrom n a room s at)
@@ -142,66 +140,40 @@ module _ (h : Header) (s : List ℕ) (at : ℕ) (ks fs ss hs ts ls os ks′ fs�
 
 pub ruleset game-laws = (no-atoms, all-game)
 
--- ---- the table, from blank arrays
+-- ---- the whole table
 
-module _ (h : Header) (ks fs ss hs ts ls os ks′ fs′ ss′ hs′ ts′ ls′ os′ : List ℕ) (q : Rest) where
-  game-refused : (p : Parse Game) → WroteGame p h q ks fs ss hs ts ls os ks′ fs′ ss′ hs′ ts′ ls′ os′ → (f : Refusal) (y : Table) → q ≡ Q.Fault f → y ≡ refusedTable f → y ≡ decoded p
-  game-refused (ok G n) w f y g e = let z : _≡_ {A = ℕ} 0 1 = cc (w .1) in absurd (omega arith)
-  game-refused (fault f′) w f y g e = let k : f ≡ f′ = cc in rw k at e
+module _ (s : List ℕ) (ks fs ss hs ts ls os ks′ fs′ ss′ hs′ ts′ ls′ os′ : List ℕ) where
+  abbrev Tabled : Parse Game → Read → Type 0
+  Tabled p r = WroteTable p r ks fs ss hs ts ls os ks′ fs′ ss′ hs′ ts′ ls′ os′
 
-  game-read : (p : Parse Game) → WroteGame p h q ks fs ss hs ts ls os ks′ fs′ ss′ hs′ ts′ ls′ os′ → (many : ℕ) → q ≡ Q.Good many
-      → ks ≡ blank 1024 → fs ≡ blank 1024 → ss ≡ blank 1024 → hs ≡ blank 2048 → ts ≡ blank 2049 → ls ≡ blank 8192 → os ≡ blank 8192
-      → _≡_ {A = Table} (record {
-        refusal = Success;
-        header = h;
-        kinds = ks′;
-        firsts = fs′;
-        seconds = ss′;
-        many = many;
-        heads = hs′;
-        starts = ts′;
-        literals = ls′;
-        owners = os′;
-      }) (decoded p)
-  game-read (ok G n) w many g k f z b t a o =
+  pub too-long : 65535 < length s → Tabled (table s 0) (T.Fault TableTooLong)
+  unfolding table
+  too-long l = rw lt-ltb refl
+
+  -- by what the reading of the game gave
+  game-missed : (h : Header) (q : Rest) (f : Refusal) → q ≡ Q.Fault f → (p : Parse Game) → WroteGame p h q ks fs ss hs ts ls os ks′ fs′ ss′ hs′ ts′ ls′ os′ → Tabled p (T.Fault f)
+  game-missed h q f g (ok G n) w = let z : _≡_ {A = ℕ} 0 1 = cc (w .1) in absurd (omega arith)
+  game-missed h q f g (fault f′) w = cc
+
+  game-got : (h : Header) (q : Rest) (many : ℕ) → q ≡ Q.Good many → (p : Parse Game) → WroteGame p h q ks fs ss hs ts ls os ks′ fs′ ss′ hs′ ts′ ls′ os′ → Tabled p (T.Good h many)
+  game-got h q many g (ok G n) w =
       let m : many ≡ w .0 = cc (w .1) in
       let e = w .2 in
-      cc (e .header-is, e .count-is, e .atoms .kinds-are, e .atoms .firsts-are, e .atoms .seconds-are, e .clauses .heads-are, e .clauses .starts-are, e .clauses .literals-are, e .clauses .owners-are)
-  game-read (fault f′) w many g k f z b t a o = let z : _≡_ {A = ℕ} 0 1 = cc in absurd (omega arith)
+      record { answer-is = cc (e .header-is, e .count-is); atoms = e .atoms; clauses = e .clauses }
+  game-got h q many g (fault f′) w = let z : _≡_ {A = ℕ} 0 1 = cc in absurd (omega arith)
 
-  module _ (s : List ℕ) (at : ℕ) (w : WroteGame (game h s at) h q ks fs ss hs ts ls os ks′ fs′ ss′ hs′ ts′ ls′ os′) where
-    pub no-game : (f : Refusal) (y : Table) → q ≡ Q.Fault f → y ≡ refusedTable f → y ≡ decoded (game h s at)
-    no-game = game-refused (game h s at) w
-
-    pub whole-game : (many : ℕ) → q ≡ Q.Good many → ks ≡ blank 1024 → fs ≡ blank 1024 → ss ≡ blank 1024 → hs ≡ blank 2048 → ts ≡ blank 2049 → ls ≡ blank 8192 → os ≡ blank 8192
-        → _≡_ {A = Table} (record {
-          refusal = Success;
-          header = h;
-          kinds = ks′;
-          firsts = fs′;
-          seconds = ss′;
-          many = many;
-          heads = hs′;
-          starts = ts′;
-          literals = ls′;
-          owners = os′;
-        }) (decoded (game h s at))
-    whole-game = game-read (game h s at) w
-
-pub ruleset after-laws = (no-game, whole-game)
-
-module _ (s : List ℕ) where
-  pub too-long : (y : Table) → 65535 < length s → y ≡ refusedTable TableTooLong → y ≡ decoded (table s 0)
-  unfolding table
-  too-long y l e = rw lt-ltb e
-
-  module _ (l : length s ≤ 65535) (r : Head) (e : headSays r ≡ header s 0) (y : Table) where
-    pub no-header : (f : Refusal) → r ≡ H.Fault f → y ≡ refusedTable f → y ≡ decoded (table s 0)
+  module _ (l : length s ≤ 65535) (r : Head) (e : headSays r ≡ header s 0) where
+    pub no-header : (f : Refusal) → r ≡ H.Fault f → Tabled (table s 0) (T.Fault f)
     unfolding table
-    no-header f d k = rw (le-ltb 65535 (length s), ← e, d) k
+    no-header f d = rw (le-ltb 65535 (length s), ← e, d) refl
 
-    pub all-table : (h : Header) (at : ℕ) → r ≡ H.Good h at → y ≡ decoded (game h s at) → y ≡ decoded (table s 0)
-    unfolding table
-    all-table h at d k = rw (le-ltb 65535 (length s), ← e, d) k
+    module _ (h : Header) (at : ℕ) (d : r ≡ H.Good h at) (q : Rest) (w : WroteGame (game h s at) h q ks fs ss hs ts ls os ks′ fs′ ss′ hs′ ts′ ls′ os′) where
+      pub no-game : (f : Refusal) → q ≡ Q.Fault f → Tabled (table s 0) (T.Fault f)
+      unfolding table
+      no-game f g = rw (le-ltb 65535 (length s), ← e, d) (game-missed h q f g (game h s at) w)
 
-pub ruleset table-laws = (too-long, no-header, all-table)
+      pub all-table : (many : ℕ) → q ≡ Q.Good many → Tabled (table s 0) (T.Good h many)
+      unfolding table
+      all-table many g = rw (le-ltb 65535 (length s), ← e, d) (game-got h q many g (game h s at) w)
+
+pub ruleset table-laws = (too-long, no-header, no-game, all-table)

@@ -4,10 +4,7 @@ use mathlib.Core.Path.{_≡_}
 use mathlib.Core.List.{List, [], _∷_, map}
 use lib.ListN.{length, replicate}
 use lib.Seq.{sets}
-use Rattle.refusals.specs.declared.Refusal.{Refusal}
-use Rattle.refusals.specs.declared.Refusal.the-variants.{Success}
 use Rattle.gdl.specs.Game.{Atom, Literal, Clause, Game}
-use Rattle.gdl.specs.Flags.{blank}
 use Rattle.gdl.specs.Layout.{codeOf, kindsOf, firstsOf, secondsOf, headsOf, startsFrom, literalsOf, ownersOf}
 use Rattle.table.specs.Parse.{Parse, ok, fault}
 use Rattle.table.specs.Table.{key}
@@ -31,7 +28,8 @@ use Rattle.table.specs.declared.clauses.ClauseRead.{ClauseRead}
 use Rattle.table.specs.declared.clauses.ClauseRead.the-variants as C
 use Rattle.table.specs.declared.tables.Rest.{Rest}
 use Rattle.table.specs.declared.tables.Rest.the-variants as Q
-use Rattle.table.specs.declared.tables.Table.{Table}
+use Rattle.table.specs.declared.tables.Read.{Read}
+use Rattle.table.specs.declared.tables.Read.the-variants as T
 
 abbrev pub fieldSays : Field → Parse ℕ
 fieldSays (F.Value i) = ok (i .value) (i .next)
@@ -120,33 +118,12 @@ blankHeader = record {
   sizes = record { fluents = 0; moves = 0; percepts = 0; atoms = 0 };
 }
 
--- everything blank but the refusal
-abbrev pub refusedTable : Refusal → Table
-refusedTable f = record {
-  refusal = f;
-  header = blankHeader;
-  kinds = blank 1024;
-  firsts = blank 1024;
-  seconds = blank 1024;
-  many = 0;
-  heads = blank 2048;
-  starts = blank 2049;
-  literals = blank 8192;
-  owners = blank 8192;
-}
+-- a game in lent arrays; the answer is its header and the count of its clauses
+pub record TableLaid (G : Game) (r : Read) (ks fs ss hs ts ls os ks′ fs′ ss′ hs′ ts′ ls′ os′ : List ℕ) : Type 0 where
+  pub answer-is : r ≡ T.Good (headerOf G) (length (G .clauses))
+  pub atoms : AtomsLaid (G .atoms) ks fs ss ks′ fs′ ss′
+  pub clauses : ClausesLaid (G .clauses) hs ts ls os hs′ ts′ ls′ os′
 
--- a game in its arrays, each from its start, the rest blank
-abbrev pub decoded : Parse Game → Table
-decoded (ok G n) = record {
-  refusal = Success;
-  header = headerOf G;
-  kinds = sets (blank 1024) 0 (kindsOf (G .atoms));
-  firsts = sets (blank 1024) 0 (firstsOf (G .atoms));
-  seconds = sets (blank 1024) 0 (secondsOf (G .atoms));
-  many = length (G .clauses);
-  heads = sets (blank 2048) 0 (headsOf (G .clauses));
-  starts = sets (blank 2049) 0 (startsFrom 0 (G .clauses));
-  literals = sets (blank 8192) 0 (literalsOf (G .clauses));
-  owners = sets (blank 8192) 0 (ownersOf (G .clauses));
-}
-decoded (fault f) = refusedTable f
+abbrev pub WroteTable : Parse Game → Read → List ℕ → List ℕ → List ℕ → List ℕ → List ℕ → List ℕ → List ℕ → List ℕ → List ℕ → List ℕ → List ℕ → List ℕ → List ℕ → List ℕ → Type 0
+WroteTable (ok G n) r ks fs ss hs ts ls os ks′ fs′ ss′ hs′ ts′ ls′ os′ = TableLaid G r ks fs ss hs ts ls os ks′ fs′ ss′ hs′ ts′ ls′ os′
+WroteTable (fault f) r ks fs ss hs ts ls os ks′ fs′ ss′ hs′ ts′ ls′ os′ = r ≡ T.Fault f

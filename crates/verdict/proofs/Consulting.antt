@@ -1,7 +1,6 @@
 -- Laws of consulting a table: from what was read and judged to the verdict, and from the model's flags to the computed model.
 use mathlib.Core.Path.{_≡_, refl, sym, ap, subst, _∙_}
 use mathlib.Core.Logic.{_⊎_, inl, inr}
-use mathlib.Core.Bool.{Bool, true, false, cond}
 use mathlib.Core.List.{List, [], _∷_, _++_}
 use Prim.Native.Nat.{ℕ, zero, suc, _+_, _-_, _≤_, _<_}
 use native.Mathlib.Omega.{arith}
@@ -12,9 +11,9 @@ use lib.Seq.{sets}
 use Rattle.refusals.specs.Refusal.{numberOf}
 use Rattle.refusals.specs.declared.Refusal.{Refusal}
 use Rattle.refusals.specs.declared.Refusal.the-variants.{Success}
-use Rattle.refusals.proofs.Numbers.{zero-success}
 use Rattle.gdl.specs.Game.{Game}
 use Rattle.gdl.specs.Flags.{on, blank}
+use Rattle.gdl.specs.Layout.{secondsOf, ownersOf}
 use Rattle.gdl.specs.Valid.{Valid}
 use Rattle.gdl.specs.Computed.{model, reachOf}
 use Rattle.gdl.proofs.Bits.{Bits, model-bits, bits-same}
@@ -22,16 +21,17 @@ use Rattle.gdl.proofs.Modelled.{model-is, model-length}
 use Rattle.gdl.proofs.Walks.{zeros}
 use Rattle.table.specs.Parse.{Parse, ok, fault}
 use Rattle.table.specs.Table.{table}
-use Rattle.table.specs.Says.{blankHeader, headerOf, decoded}
-use Rattle.table.specs.declared.tables.Table.{Table}
-use Rattle.table.proofs.Faults.{Faults, table-faults, not-success}
+use Rattle.table.specs.Says.{blankHeader, headerOf, WroteTable}
+use Rattle.table.specs.declared.header.Header.{Header}
+use Rattle.table.specs.declared.tables.Read.{Read}
+use Rattle.table.specs.declared.tables.Read.the-variants as T
 use Rattle.rules.specs.Rules.{Ruled}
 use Rattle.rules.specs.Verdict.{Verdict, unfit, fit}
 use Rattle.rules.specs.Judged.{judge}
 use Rattle.rules.proofs.Reading.{read-limits}
 use Rattle.rules.proofs.Judging.{fault-judge, read-judge}
 use Rattle.rules.proofs.Accepting.{accepted}
-use Rattle.judge.specs.Judgement.{verdictOf, Judges}
+use Rattle.judge.specs.Judgement.{Judges}
 use Rattle.judge.specs.declared.Judgement.{Judgement}
 use Rattle.table.proofs.Ascending.{one-true}
 use Rattle.reach.specs.Promise.{Reached}
@@ -39,9 +39,12 @@ use Rattle.reach.proofs.Determined.{reached-is}
 use Rattle.truth.specs.Promise.{Modelled}
 use Rattle.truth.proofs.Modelled.{modelled-any}
 use Rattle.verdict.specs.Laid.{Laid, LaidToJudge, LaidToModel, Judgeable, Modelable, LaidToTrace, Traceable}
-use Rattle.verdict.specs.Consulted.{refusedBy, consulted, traced, examined}
-use Rattle.verdict.specs.declared.Consulted.{Consulted}
+use Rattle.verdict.specs.Consulted.{found, foundIn, Accepts, examined}
+use Rattle.verdict.specs.Weighed.{Blanks, Fits, Weighs}
+use Rattle.verdict.proofs.Laying.{parts, room-long}
 use Rattle.verdict.specs.declared.Examined.{Examined}
+use Rattle.verdict.specs.declared.Weighed.{Weighed}
+use Rattle.verdict.specs.declared.Weighed.the-variants as W
 
 -- ---- flags of the model
 
@@ -71,127 +74,150 @@ model-flags G v few pos ch X m =
     (m .flagged .long ∙ sym (length-append M (blank n) ∙ omega (arith, model-length G v pos ch, length-replicate {A = ℕ} n 0)))
     (λ p. modelled-any m (on M) (model-is G v pos ch) p ∙ on-blank M n p)
 
--- ---- a table that was read
+-- ---- a table that was read and judged
 
-pub record Read (s : List ℕ) (t : Table) : Type 0 where
+-- a table that was read into blank arrays
+pub record Got (s : List ℕ) (h : Header) (many : ℕ) (kinds firsts seconds heads starts literals owners : List ℕ) : Type 0 where
   pub game : Game
   pub end : ℕ
   pub read : table s 0 ≡ ok game end
-  pub is : t ≡ decoded (ok game end)
+  pub header-is : h ≡ headerOf game
+  pub laid : Laid kinds firsts heads starts literals (h .sizes .atoms) many game
+  pub seconds-are : seconds ≡ sets (blank 1024) 0 (secondsOf (game .atoms))
+  pub owners-are : owners ≡ sets (blank 8192) 0 (ownersOf (game .clauses))
 
-module _ (s : List ℕ) (t : Table) (e : t ≡ decoded (table s 0)) where
-  pub was-read : numberOf (t .refusal) ≡ 0 → Read s t
-  was-read z = go (table s 0) refl (table-faults s)
+module _ (s : List ℕ) (r : Read) (ks fs ss hs ts ls os ks′ fs′ ss′ hs′ ts′ ls′ os′ : List ℕ) (w : WroteTable (table s 0) r ks fs ss hs ts ls os ks′ fs′ ss′ hs′ ts′ ls′ os′) where
+  pub unread : (f : Refusal) → r ≡ T.Fault f → judge s ≡ unfit f
+  unread f e = go (table s 0) refl w
     where
-      go : (p : Parse Game) → table s 0 ≡ p → Faults p → Read s t
-      go (ok G n) q f = record { game = G; end = n; read = q; is = rw q at e }
-      go (fault r) q f = absurd (not-success r f (sym (ap (λ (x : Table). x .refusal) (rw q at e)) ∙ zero-success (t .refusal) z))
+      go : (p : Parse Game) → table s 0 ≡ p → WroteTable p r ks fs ss hs ts ls os ks′ fs′ ss′ hs′ ts′ ls′ os′ → judge s ≡ unfit f
+      go (ok G n) q w = let z : _≡_ {A = ℕ} 0 1 = cc (w .answer-is) in absurd (omega arith)
+      go (fault g) q w = let k : g ≡ f = cc in sym (fault-judge s f (q ∙ ap fault k))
 
-  pub unread-consulted : (numberOf (t .refusal) ≡ 0 → ⊥) → (y : Consulted) (pos ch : List ℕ) → y ≡ refusedBy (t .refusal) → y ≡ consulted (judge s) pos ch
-  unread-consulted n y pos ch h = go (table s 0) refl
+  pub was-read : Blanks ks fs ss hs ts ls os → (h : Header) (many : ℕ) → r ≡ T.Good h many → Got s h many ks′ fs′ ss′ hs′ ts′ ls′ os′
+  was-read b h many e = go (table s 0) refl w
     where
-      go : (p : Parse Game) → table s 0 ≡ p → y ≡ consulted (judge s) pos ch
-      go (ok G m) q = absurd (n (ap (λ (x : Table). numberOf (x .refusal)) (rw q at e)))
-      go (fault r) q =
-          let f : t .refusal ≡ r = ap (λ (x : Table). x .refusal) (rw q at e) in
-          rw (← (fault-judge s r q), ← f) h
+      go : (p : Parse Game) → table s 0 ≡ p → WroteTable p r ks fs ss hs ts ls os ks′ fs′ ss′ hs′ ts′ ls′ os′ → Got s h many ks′ fs′ ss′ hs′ ts′ ls′ os′
+      go (ok G n) q w =
+          let k : h ≡ headerOf G = cc (w .answer-is) in
+          let m : many ≡ length (G .clauses) = cc (w .answer-is) in
+          record {
+            game = G;
+            end = n;
+            read = q;
+            header-is = k;
+            laid = record {
+              limits = read-limits s G n q;
+              kinds-are = rw (b .kinds-blank) at (w .atoms .kinds-are);
+              firsts-are = rw (b .firsts-blank) at (w .atoms .firsts-are);
+              heads-are = rw (b .heads-blank) at (w .clauses .heads-are);
+              starts-are = rw (b .starts-blank) at (w .clauses .starts-are);
+              literals-are = rw (b .literals-blank) at (w .clauses .literals-are);
+              atoms-are = ap (λ (x : Header). x .sizes .atoms) k;
+              many-are = m;
+            };
+            seconds-are = rw (b .seconds-blank) at (w .atoms .seconds-are);
+            owners-are = rw (b .owners-blank) at (w .clauses .owners-are);
+          }
+      go (fault g) q w = let z : _≡_ {A = ℕ} 0 1 = cc in absurd (omega arith)
 
-module _ {s : List ℕ} {t : Table} (r : Read s t) where
-  laid : Laid (t .kinds) (t .firsts) (t .heads) (t .starts) (t .literals) (t .header .sizes .atoms) (t .many) (r .game)
-  laid = record {
-    limits = read-limits s (r .game) (r .end) (r .read);
-    kinds-are = ap (λ (x : Table). x .kinds) (r .is);
-    firsts-are = ap (λ (x : Table). x .firsts) (r .is);
-    heads-are = ap (λ (x : Table). x .heads) (r .is);
-    starts-are = ap (λ (x : Table). x .starts) (r .is);
-    literals-are = ap (λ (x : Table). x .literals) (r .is);
-    atoms-are = ap (λ (x : Table). x .header .sizes .atoms) (r .is);
-    many-are = ap (λ (x : Table). x .many) (r .is);
+module _ {s : List ℕ} {h : Header} {many : ℕ} {kinds firsts seconds heads starts literals owners : List ℕ} (g : Got s h many kinds firsts seconds heads starts literals owners) where
+  to-judge : LaidToJudge kinds firsts heads starts literals owners (h .sizes .atoms) many (h .players .seats) (g .game)
+  to-judge = record { laid = g .laid; owners-are = g .owners-are; seats-are = ap (λ (x : Header). x .players .seats) (g .header-is) }
+
+  pub judgeable : Judgeable kinds firsts heads starts literals owners (h .sizes .atoms) many (h .players .seats)
+  judgeable = record { game = g .game; held = to-judge }
+
+  module _ {j : Judgement} (a : Judges (LaidToJudge kinds firsts heads starts literals owners (h .sizes .atoms) many (h .players .seats)) Ruled j) where
+    pub broken : (numberOf (j .refusal) ≡ 0 → ⊥) → judge s ≡ unfit (j .refusal)
+    broken n = sym (read-judge s (g .game) (g .end) (unfit (j .refusal)) (g .read) (rw (ne-eqb (numberOf (j .refusal)) 0 n) at (a .ruled (g .game) to-judge)))
+
+    pub kept : numberOf (j .refusal) ≡ 0 → Fits (judge s) h many (j .top) kinds firsts seconds heads starts literals owners (j .levels)
+    kept z =
+        let ruled : Ruled (g .game) (fit (g .game)) = rw (eq-eqb (numberOf (j .refusal)) 0 z) at (a .ruled (g .game) to-judge) in
+        record {
+          game = g .game;
+          verdict = sym (read-judge s (g .game) (g .end) (fit (g .game)) (g .read) ruled);
+          header-is = g .header-is;
+          laid = g .laid;
+          seconds-are = g .seconds-are;
+          owners-are = g .owners-are;
+          ruled = ruled;
+          levelled = a .levels z (g .game) to-judge;
+          oneTrue = one-true s (g .game) (g .end) (g .read);
+        }
+
+-- ---- what is asked of an accepted table
+
+module _ {v : Verdict} {h : Header} {many top : ℕ} {kinds firsts seconds heads starts literals owners levels : List ℕ} (f : Fits v h many top kinds firsts seconds heads starts literals owners levels) where
+  to-model : LaidToModel kinds firsts seconds heads starts literals (h .sizes .atoms) many (f .game)
+  to-model = record { laid = f .laid; seconds-are = f .seconds-are }
+
+  pub modelable : Modelable kinds firsts seconds heads starts literals levels top (h .sizes .atoms) many
+  modelable = record { game = f .game; held = to-model; accepted = f .ruled; levelled = f .levelled }
+
+  to-trace : LaidToTrace kinds firsts starts literals owners (h .sizes .atoms) many (f .game)
+  to-trace = record { heads = heads; laid = f .laid; owners-are = f .owners-are }
+
+  pub traceable : Traceable kinds firsts starts literals owners (h .sizes .atoms) many
+  traceable = record { game = f .game; held = to-trace; oneTrue = f .oneTrue }
+
+  -- how long each array is
+  pub record Counts : Type 0 where
+    pub kinds-count : 1024 ≡ length kinds
+    pub firsts-count : 1024 ≡ length firsts
+    pub seconds-count : 1024 ≡ length seconds
+    pub heads-count : 2048 ≡ length heads
+    pub starts-count : 2049 ≡ length starts
+    pub literals-count : 8192 ≡ length literals
+    pub owners-count : 8192 ≡ length owners
+
+  pub counts : Counts
+  counts =
+      let p = parts (f .laid) in
+      record {
+        kinds-count = sym (p .kinds-long);
+        firsts-count = sym (p .firsts-long);
+        seconds-count = sym (rw (f .seconds-are) (room-long 1024 (secondsOf (f .game .atoms))));
+        heads-count = sym (p .heads-long);
+        starts-count = sym (p .starts-long);
+        literals-count = sym (p .literals-long);
+        owners-count = sym (rw (f .owners-are) (room-long 8192 (ownersOf (f .game .clauses))));
+      }
+
+  found-is : (X Y : List ℕ) → X ≡ Y ++ blank (1024 - length (f .game .atoms)) → found h kinds firsts seconds X ≡ foundIn (f .game) Y
+  found-is X Y e = cc (e, f .header-is, f .laid .kinds-are, f .laid .firsts-are, f .seconds-are)
+
+module _ (s : List ℕ) {h : Header} {many top : ℕ} {kinds firsts seconds heads starts literals owners levels : List ℕ} (f : Fits (judge s) h many top kinds firsts seconds heads starts literals owners levels) where
+  pub fit-consulted : (pos ch X : List ℕ)
+      → ((G : Game) → LaidToModel kinds firsts seconds heads starts literals (h .sizes .atoms) many G → Modelled G pos ch X)
+      → Accepts (judge s) (λ G. model G pos ch) (found h kinds firsts seconds X)
+  fit-consulted pos ch X m = record {
+    game = f .game;
+    verdict = f .verdict;
+    is = found-is f X (model (f .game) pos ch) (model-flags (f .game) (accepted s (f .game) (f .verdict) .valid) (f .laid .limits .atoms) pos ch X (m (f .game) (to-model f)));
   }
 
-  pub to-judge : LaidToJudge (t .kinds) (t .firsts) (t .heads) (t .starts) (t .literals) (t .owners) (t .header .sizes .atoms) (t .many) (t .header .players .seats) (r .game)
-  to-judge = record { laid = laid; owners-are = ap (λ (x : Table). x .owners) (r .is); seats-are = ap (λ (x : Table). x .header .players .seats) (r .is) }
+  pub fit-traced : (z : ℕ) (X : List ℕ)
+      → ((G : Game) → LaidToTrace kinds firsts starts literals owners (h .sizes .atoms) many G → Reached G z X)
+      → Accepts (judge s) (λ G. reachOf G z) (found h kinds firsts seconds X)
+  fit-traced z X m = record {
+    game = f .game;
+    verdict = f .verdict;
+    is = found-is f X (reachOf (f .game) z) (reached-is (accepted s (f .game) (f .verdict) .valid) (m (f .game) (to-trace f)) (f .laid .limits .atoms));
+  }
 
-  pub judgeable : Judgeable (t .kinds) (t .firsts) (t .heads) (t .starts) (t .literals) (t .owners) (t .header .sizes .atoms) (t .many) (t .header .players .seats)
-  judgeable = record { game = r .game; held = to-judge }
+  pub fit-examined : _≡_ {A = Examined} (record { refusal = Success; header = h }) (examined (judge s))
+  fit-examined = rw (f .verdict) (cc (f .header-is))
 
-  pub to-model : LaidToModel (t .kinds) (t .firsts) (t .seconds) (t .heads) (t .starts) (t .literals) (t .header .sizes .atoms) (t .many) (r .game)
-  to-model = record { laid = laid; seconds-are = ap (λ (x : Table). x .seconds) (r .is) }
+pub refused-examined : (s : List ℕ) (f : Refusal) → judge s ≡ unfit f → (y : Examined) → y ≡ record { refusal = f; header = blankHeader } → y ≡ examined (judge s)
+refused-examined s f e y h = rw e h
 
-  -- ---- a table that was judged
+-- ---- what an answer of `weigh` says
 
-  module _ {j : Judgement}
-      (a : Judges (LaidToJudge (t .kinds) (t .firsts) (t .heads) (t .starts) (t .literals) (t .owners) (t .header .sizes .atoms) (t .many) (t .header .players .seats)) Ruled j) where
-    pub refused-verdict : (numberOf (j .refusal) ≡ 0 → ⊥) → unfit (j .refusal) ≡ judge s
-    refused-verdict n = read-judge s (r .game) (r .end) (unfit (j .refusal)) (r .read) (rw (ne-eqb (numberOf (j .refusal)) 0 n) at (a .ruled (r .game) to-judge))
+module _ (v : Verdict) (r : Weighed) (kinds firsts seconds heads starts literals owners levels : List ℕ) (w : Weighs v r kinds firsts seconds heads starts literals owners levels) where
+  pub says-unfit : (f : Refusal) → r ≡ W.Refused f → v ≡ unfit f
+  says-unfit f e = rw e at w
 
-    module _ (z : numberOf (j .refusal) ≡ 0) where
-      ruled : Ruled (r .game) (fit (r .game))
-      ruled = rw (eq-eqb (numberOf (j .refusal)) 0 z) at (a .ruled (r .game) to-judge)
-
-      pub fit-verdict : fit (r .game) ≡ judge s
-      fit-verdict = read-judge s (r .game) (r .end) (fit (r .game)) (r .read) ruled
-
-      pub modelable : Modelable (t .kinds) (t .firsts) (t .seconds) (t .heads) (t .starts) (t .literals) (j .levels) (j .top) (t .header .sizes .atoms) (t .many)
-      modelable = record { game = r .game; held = to-model; accepted = ruled; levelled = a .levels z (r .game) to-judge }
-
-      pub fit-consulted : (pos ch X : List ℕ)
-          → ((G : Game) → LaidToModel (t .kinds) (t .firsts) (t .seconds) (t .heads) (t .starts) (t .literals) (t .header .sizes .atoms) (t .many) G → Modelled G pos ch X)
-          → _≡_ {A = Consulted} (record { refusal = Success; header = t .header; kinds = t .kinds; firsts = t .firsts; seconds = t .seconds; flags = X }) (consulted (judge s) pos ch)
-      fit-consulted pos ch X m =
-          let f : X ≡ model (r .game) pos ch ++ blank (1024 - length (r .game .atoms)) =
-          model-flags (r .game) (accepted s (r .game) (sym fit-verdict) .valid) (read-limits s (r .game) (r .end) (r .read) .atoms) pos ch X (m (r .game) to-model) in
-          rw (← fit-verdict) (cc (f, ap (λ (x : Table). x .header) (r .is), ap (λ (x : Table). x .kinds) (r .is), ap (λ (x : Table). x .firsts) (r .is), ap (λ (x : Table). x .seconds) (r .is)))
-
-    pub broken-consulted : (numberOf (j .refusal) ≡ 0 → ⊥) → (y : Consulted) (pos ch : List ℕ) → y ≡ refusedBy (j .refusal) → y ≡ consulted (judge s) pos ch
-    broken-consulted n y pos ch h = rw (← (refused-verdict n)) h
-
--- ---- reach
-
-pub unread-traced : (s : List ℕ) (t : Table) → t ≡ decoded (table s 0) → (numberOf (t .refusal) ≡ 0 → ⊥) → (y : Consulted) (z : ℕ) → y ≡ refusedBy (t .refusal) → y ≡ traced (judge s) z
-unread-traced s t e n y z h = go (table s 0) refl
-  where
-    go : (p : Parse Game) → table s 0 ≡ p → y ≡ traced (judge s) z
-    go (ok G m) q = absurd (n (ap (λ (x : Table). numberOf (x .refusal)) (rw q at e)))
-    go (fault r) q =
-        let f : t .refusal ≡ r = ap (λ (x : Table). x .refusal) (rw q at e) in
-        rw (← (fault-judge s r q), ← f) h
-
-module _ {s : List ℕ} {t : Table} (r : Read s t) where
-  to-trace : LaidToTrace (t .kinds) (t .firsts) (t .starts) (t .literals) (t .owners) (t .header .sizes .atoms) (t .many) (r .game)
-  to-trace = record { heads = t .heads; laid = to-judge r .laid; owners-are = to-judge r .owners-are }
-
-  pub traceable : Traceable (t .kinds) (t .firsts) (t .starts) (t .literals) (t .owners) (t .header .sizes .atoms) (t .many)
-  traceable = record { game = r .game; held = to-trace; oneTrue = one-true s (r .game) (r .end) (r .read) }
-
-  module _ {j : Judgement}
-      (a : Judges (LaidToJudge (t .kinds) (t .firsts) (t .heads) (t .starts) (t .literals) (t .owners) (t .header .sizes .atoms) (t .many) (t .header .players .seats)) Ruled j) where
-    pub broken-traced : (numberOf (j .refusal) ≡ 0 → ⊥) → (y : Consulted) (z : ℕ) → y ≡ refusedBy (j .refusal) → y ≡ traced (judge s) z
-    broken-traced n y z h = rw (← (refused-verdict r a n)) h
-
-    pub fit-traced : numberOf (j .refusal) ≡ 0 → (z : ℕ) (X : List ℕ)
-        → ((G : Game) → LaidToTrace (t .kinds) (t .firsts) (t .starts) (t .literals) (t .owners) (t .header .sizes .atoms) (t .many) G → Reached G z X)
-        → _≡_ {A = Consulted} (record { refusal = Success; header = t .header; kinds = t .kinds; firsts = t .firsts; seconds = t .seconds; flags = X }) (traced (judge s) z)
-    fit-traced e z X m =
-        let f : X ≡ reachOf (r .game) z ++ blank (1024 - length (r .game .atoms)) =
-        reached-is (accepted s (r .game) (sym (fit-verdict r a e)) .valid) (m (r .game) to-trace) (read-limits s (r .game) (r .end) (r .read) .atoms) in
-        rw (← (fit-verdict r a e)) (cc (f, ap (λ (x : Table). x .header) (r .is), ap (λ (x : Table). x .kinds) (r .is), ap (λ (x : Table). x .firsts) (r .is), ap (λ (x : Table). x .seconds) (r .is)))
-
--- ---- the verdict alone
-
-pub unread-examined : (s : List ℕ) (t : Table) → t ≡ decoded (table s 0) → (numberOf (t .refusal) ≡ 0 → ⊥) → (y : Examined) → y ≡ record { refusal = t .refusal; header = blankHeader } → y ≡ examined (judge s)
-unread-examined s t e n y h = go (table s 0) refl
-  where
-    go : (p : Parse Game) → table s 0 ≡ p → y ≡ examined (judge s)
-    go (ok G m) q = absurd (n (ap (λ (x : Table). numberOf (x .refusal)) (rw q at e)))
-    go (fault r) q =
-        let f : t .refusal ≡ r = ap (λ (x : Table). x .refusal) (rw q at e) in
-        rw (← (fault-judge s r q), ← f) h
-
-module _ {s : List ℕ} {t : Table} (r : Read s t) {j : Judgement}
-    (a : Judges (LaidToJudge (t .kinds) (t .firsts) (t .heads) (t .starts) (t .literals) (t .owners) (t .header .sizes .atoms) (t .many) (t .header .players .seats)) Ruled j) where
-  pub broken-examined : (numberOf (j .refusal) ≡ 0 → ⊥) → (y : Examined) → y ≡ record { refusal = j .refusal; header = blankHeader } → y ≡ examined (judge s)
-  broken-examined n y h = rw (← (refused-verdict r a n)) h
-
-  pub fit-examined : numberOf (j .refusal) ≡ 0 → _≡_ {A = Examined} (record { refusal = Success; header = t .header }) (examined (judge s))
-  fit-examined z = rw (← (fit-verdict r a z)) (cc (ap (λ (x : Table). x .header) (r .is)))
+  pub says-fit : (h : Header) (many top : ℕ) → r ≡ W.Accepted h many top → Fits v h many top kinds firsts seconds heads starts literals owners levels
+  says-fit h many top e = rw e at w

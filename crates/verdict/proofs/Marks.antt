@@ -15,8 +15,7 @@ use Rattle.gdl.proofs.Walks.{flags-same}
 use Rattle.truth.specs.Reading.{atomsOf}
 use Rattle.truth.specs.Marks.{isAt, marksOf}
 use Rattle.truth.proofs.Held.{atoms-back}
-use Rattle.verdict.specs.Consulted.{foundIn, Fit, cut, Columns}
-use Rattle.verdict.specs.declared.Consulted.{Consulted}
+use Rattle.verdict.specs.Consulted.{Consulted, foundIn, Fit, cut, Columns}
 use Rattle.verdict.proofs.Laying.{part-used, room-long}
 use Rattle.verdict.proofs.Consulting.{on-blank}
 

@@ -1,4 +1,4 @@
--- What a call learns from a table: the refusal, all else blank; or the header, the atoms, and flags of the atoms.
+-- What a call learns from a table: a refusal; or the header, and in lent arrays the atoms and flags of the atoms.
 use mathlib.Core.List.{List, _++_}
 use mathlib.Core.Path.{_≡_}
 use Prim.Native.Nat.{ℕ, _-_, _≤_}
@@ -9,19 +9,28 @@ use Rattle.refusals.specs.declared.Refusal.the-variants.{Success}
 use Rattle.gdl.specs.Game.{Game}
 use Rattle.gdl.specs.Flags.{blank}
 use Rattle.gdl.specs.Layout.{kindsOf, firstsOf, secondsOf}
-use Rattle.gdl.specs.Computed.{model, reachOf}
 use Rattle.table.specs.Says.{blankHeader, headerOf}
 use Rattle.rules.specs.Verdict.{Verdict, unfit, fit}
-use Rattle.verdict.specs.declared.Consulted.{Consulted}
+use Rattle.table.specs.declared.header.Header.{Header}
+use Rattle.verdict.specs.declared.Learnt.{Learnt}
+use Rattle.verdict.specs.declared.Learnt.the-variants as L
 use Rattle.verdict.specs.declared.Examined.{Examined}
 
-abbrev pub refusedBy : Refusal → Consulted
-refusedBy f = record { refusal = f; header = blankHeader; kinds = blank 1024; firsts = blank 1024; seconds = blank 1024; flags = blank 1024 }
+-- the header of an accepted table, its atoms and flags of its atoms
+pub record Consulted : Type 0 where
+  pub header : Header
+  pub kinds : List ℕ
+  pub firsts : List ℕ
+  pub seconds : List ℕ
+  pub flags : List ℕ
+
+-- as code has them
+abbrev pub found : Header → List ℕ → List ℕ → List ℕ → List ℕ → Consulted
+found h kinds firsts seconds flags = record { header = h; kinds = kinds; firsts = firsts; seconds = seconds; flags = flags }
 
 -- a game's header and atoms, with flags of its atoms
 abbrev pub foundIn : Game → List ℕ → Consulted
 foundIn G X = record {
-  refusal = Success;
   header = headerOf G;
   kinds = sets (blank 1024) 0 (kindsOf (G .atoms));
   firsts = sets (blank 1024) 0 (firstsOf (G .atoms));
@@ -29,15 +38,22 @@ foundIn G X = record {
   flags = X ++ blank (1024 - length (G .atoms));
 }
 
--- the flags of the atoms that are true in a position with choices
-abbrev pub consulted : Verdict → List ℕ → List ℕ → Consulted
-consulted (unfit f) pos ch = refusedBy f
-consulted (fit G) pos ch = foundIn G (model G pos ch)
+-- an accepted table, and what was found in it with the flags that are asked for
+pub record Accepts (v : Verdict) (flagsOf : Game → List ℕ) (c : Consulted) : Type 0 where
+  pub game : Game
+  pub verdict : v ≡ fit game
+  pub is : c ≡ foundIn game (flagsOf game)
 
--- the flags of the atoms that reach a seat
-abbrev pub traced : Verdict → ℕ → Consulted
-traced (unfit f) z = refusedBy f
-traced (fit G) z = foundIn G (reachOf G z)
+-- what an answer says of the verdict and the arrays
+abbrev pub Learns : Verdict → (Game → List ℕ) → Learnt → List ℕ → List ℕ → List ℕ → List ℕ → Type 0
+Learns v flagsOf (L.Refused f) kinds firsts seconds flags = v ≡ unfit f
+Learns v flagsOf (L.Accepted h) kinds firsts seconds flags = Accepts v flagsOf (found h kinds firsts seconds flags)
+
+-- blank arrays for the atoms
+pub record BlankAtoms (kinds firsts seconds : List ℕ) : Type 0 where
+  pub kinds-blank : kinds ≡ blank 1024
+  pub firsts-blank : firsts ≡ blank 1024
+  pub seconds-blank : seconds ≡ blank 1024
 
 -- an accepted table was consulted
 pub record Fit (c : Consulted) : Type 0 where

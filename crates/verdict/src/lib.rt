@@ -3,12 +3,18 @@ use judge::Judgement;
 use refusals::Refusal;
 use refusals::number_of;
 use table::header::Header;
+use table::tables::Read;
+use table::tables::no_atoms;
+use table::tables::no_heads;
+use table::tables::no_literals;
+use table::tables::no_starts;
 ghost use mathlib.Core.Path.{_≡_};
 ghost use Rattle.gdl.specs.Game.{Game};
 ghost use Rattle.judge.specs.Judgement.{Judges};
 ghost use Rattle.rules.specs.Rules.{Ruled};
 ghost use Rattle.truth.specs.Promise.{Modelled};
 ghost use Rattle.gdl.specs.Flags.{blank};
+ghost use Rattle.gdl.specs.Computed.{model, reachOf};
 ghost use Rattle.rules.specs.Judged.{judge};
 ghost use mathlib.Core.List.{List};
 ghost use Prim.Native.Nat.{ℕ, _≤_};
@@ -17,18 +23,19 @@ ghost use Rattle.gdl.specs.Flags.{on};
 ghost use Rattle.table.specs.Says.{blankHeader};
 ghost use Rattle.truth.specs.Reading.{atomsOf};
 ghost use Rattle.truth.specs.Marks.{marksOf};
-ghost use Rattle.verdict.specs.Consulted.{refusedBy, foundIn, consulted, traced, examined, Fit, cut, Columns};
+ghost use Rattle.verdict.specs.Consulted.{found, foundIn, BlankAtoms, Learns, examined, Fit, cut, Columns};
 ghost use Rattle.reach.specs.Promise.{Reached};
+ghost use Rattle.verdict.specs.Weighed.{Blanks, Weighs};
 ghost use Rattle.verdict.specs.Laid.{LaidToJudge, LaidToModel, Judgeable, Modelable, LaidToTrace, Traceable};
 
 // The check, on the parts of the arrays that are in use.
-fn judge_part<'a>(
-    kinds: &'a [u16],
-    firsts: &'a [u16],
-    heads: &'a [u16],
-    starts: &'a [u16],
-    literals: &'a [u16],
-    owners: &'a [u16],
+fn judge_part(
+    kinds: &[u16],
+    firsts: &[u16],
+    heads: &[u16],
+    starts: &[u16],
+    literals: &[u16],
+    owners: &[u16],
     atoms: u16,
     many: u16,
     seats: u16,
@@ -51,15 +58,15 @@ fn judge_part<'a>(
 }
 
 // The model, on the parts of the arrays that are in use.
-fn truth_part<'s, 'a>(
+fn truth_part<'s>(
     position: &'s [u8; 512],
     choices: &'s [u16; 8],
-    kinds: &'a [u16],
-    firsts: &'a [u16],
-    seconds: &'a [u16],
-    heads: &'a [u16],
-    starts: &'a [u16],
-    literals: &'a [u16],
+    kinds: &[u16],
+    firsts: &[u16],
+    seconds: &[u16],
+    heads: &[u16],
+    starts: &[u16],
+    literals: &[u16],
     levels: &[u16; 1024],
     top: u16,
     atoms: u16,
@@ -85,93 +92,112 @@ fn truth_part<'s, 'a>(
     )
 }
 
-// What a call learns from a table: the refusal, all else blank; or the header, the atoms, and a flag for each atom that is true.
-pub struct Consulted {
-    pub refusal: Refusal,
-    pub header: Header,
-    pub kinds: [u16; 1024],
-    pub firsts: [u16; 1024],
-    pub seconds: [u16; 1024],
-    pub flags: [u8; 1024],
+// The verdict on a table: its refusal; or its header, how many clauses it has, and the first number above its levels.
+enum Weighed {
+    Refused(Refusal),
+    Accepted(Header, u16, u16),
 }
 
-fn no_atoms() -> [u16; 1024]
-    ensures { λ r. ⌜ r ≡ blank 1024 ⌝ }
+// Reads a table into lent arrays and judges it. Every call begins so.
+fn weigh(
+    s: &[u8],
+    kinds: &mut [u16; 1024],
+    firsts: &mut [u16; 1024],
+    seconds: &mut [u16; 1024],
+    heads: &mut [u16; 2048],
+    starts: &mut [u16; 2049],
+    literals: &mut [u16; 8192],
+    owners: &mut [u16; 8192],
+    levels: &mut [u16; 1024],
+) -> Weighed
+    requires { ⌜ Blanks (now kinds) (now firsts) (now seconds) (now heads) (now starts) (now literals) (now owners) ⌝ }
+    ensures { λ r. ⌜ Weighs (judge (now (s .entry))) r (now (kinds .exit)) (now (firsts .exit)) (now (seconds .exit)) (now (heads .exit)) (now (starts .exit)) (now (literals .exit)) (now (owners .exit)) (now (levels .exit)) ⌝ }
 {
-    [0; 1024]
-}
-
-fn no_flags() -> [u8; 1024]
-    ensures { λ r. ⌜ r ≡ blank 1024 ⌝ }
-{
-    [0; 1024]
-}
-
-fn refused(refusal: Refusal) -> Consulted
-    ensures { λ r. ⌜ r ≡ refusedBy refusal ⌝ }
-{
-    Consulted {
-        refusal,
-        header: table::header::no_header(),
-        kinds: no_atoms(),
-        firsts: no_atoms(),
-        seconds: no_atoms(),
-        flags: no_flags(),
+    match table::tables::read_table(s, kinds, firsts, seconds, heads, starts, literals, owners) {
+        Read::Fault(f) => Weighed::Refused(f),
+        Read::Good(header, many) => {
+            let j = judge_part(
+                kinds,
+                firsts,
+                heads,
+                starts,
+                literals,
+                owners,
+                header.sizes.atoms,
+                many,
+                header.players.seats,
+            );
+            let broken = j.refusal;
+            if number_of(broken) != 0 {
+                return Weighed::Refused(broken);
+            }
+            let found = j.levels;
+            *levels = found;
+            Weighed::Accepted(header, many, j.top)
+        }
     }
+}
+
+// What a call learns from a table: the refusal, or the header. The atoms, and a flag for each, are learnt in lent arrays.
+pub enum Learnt {
+    Refused(Refusal),
+    Accepted(Header),
+}
+
+pub fn no_flags() -> [u8; 1024]
+    ensures { λ r. ⌜ r ≡ blank 1024 ⌝ }
+{
+    [0; 1024]
 }
 
 // The verdict on a table and, where it is accepted, the model of a position and a joint choice.
-pub fn consult(s: &[u8], position: [u8; 512], choices: [u16; 8]) -> Consulted
-    ensures { λ r. ⌜ r ≡ consulted (judge (now (s .entry))) position choices ⌝ }
+pub fn consult<'s>(
+    s: &[u8],
+    position: &'s [u8; 512],
+    choices: &'s [u16; 8],
+    kinds: &mut [u16; 1024],
+    firsts: &mut [u16; 1024],
+    seconds: &mut [u16; 1024],
+    flags: &mut [u8; 1024],
+) -> Learnt
+    requires { ⌜ BlankAtoms (now kinds) (now firsts) (now seconds) ⌝ }
+    ensures { λ r. ⌜ Learns (judge (now (s .entry))) (λ G. model G (now (position .entry)) (now (choices .entry))) r (now (kinds .exit)) (now (firsts .exit)) (now (seconds .exit)) (now (flags .exit)) ⌝ }
 {
-    let t = table::tables::read_table(s);
-    let unread = t.refusal;
-    if number_of(unread) != 0 {
-        return refused(unread);
-    }
-    let header = t.header;
-    let atoms = header.sizes.atoms;
-    let many = t.many;
-    let j = judge_part(
-        &t.kinds,
-        &t.firsts,
-        &t.heads,
-        &t.starts,
-        &t.literals,
-        &t.owners,
-        atoms,
-        many,
-        header.players.seats,
-    );
-    let broken = j.refusal;
-    if number_of(broken) != 0 {
-        return refused(broken);
-    }
-    let levels = j.levels;
-    let flags = truth_part(
-        &position,
-        &choices,
-        &t.kinds,
-        &t.firsts,
-        &t.seconds,
-        &t.heads,
-        &t.starts,
-        &t.literals,
-        &levels,
-        j.top,
-        atoms,
-        many,
-    );
-    let kinds = t.kinds;
-    let firsts = t.firsts;
-    let seconds = t.seconds;
-    Consulted {
-        refusal: Refusal::Success,
-        header,
+    let mut heads = no_heads();
+    let mut starts = no_starts();
+    let mut literals = no_literals();
+    let mut owners = no_literals();
+    let mut levels = no_atoms();
+    match weigh(
+        s,
         kinds,
         firsts,
         seconds,
-        flags,
+        &mut heads,
+        &mut starts,
+        &mut literals,
+        &mut owners,
+        &mut levels,
+    ) {
+        Weighed::Refused(f) => Learnt::Refused(f),
+        Weighed::Accepted(header, many, top) => {
+            let found = truth_part(
+                position,
+                choices,
+                kinds,
+                firsts,
+                seconds,
+                &heads,
+                &starts,
+                &literals,
+                &levels,
+                top,
+                header.sizes.atoms,
+                many,
+            );
+            *flags = found;
+            Learnt::Accepted(header)
+        }
     }
 }
 
@@ -194,39 +220,39 @@ fn unexamined(refusal: Refusal) -> Examined
 pub fn examine(s: &[u8]) -> Examined
     ensures { λ r. ⌜ r ≡ examined (judge (now (s .entry))) ⌝ }
 {
-    let t = table::tables::read_table(s);
-    let unread = t.refusal;
-    if number_of(unread) != 0 {
-        return unexamined(unread);
-    }
-    let header = t.header;
-    let j = judge_part(
-        &t.kinds,
-        &t.firsts,
-        &t.heads,
-        &t.starts,
-        &t.literals,
-        &t.owners,
-        header.sizes.atoms,
-        t.many,
-        header.players.seats,
-    );
-    let broken = j.refusal;
-    if number_of(broken) != 0 {
-        return unexamined(broken);
-    }
-    Examined {
-        refusal: Refusal::Success,
-        header,
+    let mut kinds = no_atoms();
+    let mut firsts = no_atoms();
+    let mut seconds = no_atoms();
+    let mut heads = no_heads();
+    let mut starts = no_starts();
+    let mut literals = no_literals();
+    let mut owners = no_literals();
+    let mut levels = no_atoms();
+    match weigh(
+        s,
+        &mut kinds,
+        &mut firsts,
+        &mut seconds,
+        &mut heads,
+        &mut starts,
+        &mut literals,
+        &mut owners,
+        &mut levels,
+    ) {
+        Weighed::Refused(f) => unexamined(f),
+        Weighed::Accepted(header, _, _) => Examined {
+            refusal: Refusal::Success,
+            header,
+        },
     }
 }
 
 // The marks of the atoms of a kind that are true, on the parts of the arrays that are in use.
-fn marks_part<'a>(
-    kinds: &'a [u16],
-    firsts: &'a [u16],
-    seconds: &'a [u16],
-    flags: &'a [u8; 1024],
+fn marks_part(
+    kinds: &[u16],
+    firsts: &[u16],
+    seconds: &[u16],
+    flags: &[u8; 1024],
     atoms: u16,
     kind: u16,
     width: usize,
@@ -246,28 +272,36 @@ fn marks_part<'a>(
 }
 
 // Which fields the atoms of a kind have that are true: place first * width + second is marked.
-pub fn marks_in(found: Consulted, kind: u16, width: usize) -> [u8; 2048]
-    requires { ⌜ Fit found × (width ≤ 256) ⌝ }
-    ensures { λ r. ⌜ ((G : Game) (X : List ℕ) → found ≡ foundIn G X → length (G .atoms) ≤ 1024 → r ≡ marksOf kind width (G .atoms) (on X)) ⌝ }
+pub fn marks_in(
+    header: Header,
+    kinds: &[u16; 1024],
+    firsts: &[u16; 1024],
+    seconds: &[u16; 1024],
+    flags: &[u8; 1024],
+    kind: u16,
+    width: usize,
+) -> [u8; 2048]
+    requires { ⌜ Fit (found header (now kinds) (now firsts) (now seconds) (now flags)) × (width ≤ 256) ⌝ }
+    ensures { λ r. ⌜ ((G : Game) (X : List ℕ) → found header (now (kinds .entry)) (now (firsts .entry)) (now (seconds .entry)) (now (flags .entry)) ≡ foundIn G X → length (G .atoms) ≤ 1024 → r ≡ marksOf kind width (G .atoms) (on X)) ⌝ }
 {
     marks_part(
-        &found.kinds,
-        &found.firsts,
-        &found.seconds,
-        &found.flags,
-        found.header.sizes.atoms,
+        kinds,
+        firsts,
+        seconds,
+        flags,
+        header.sizes.atoms,
         kind,
         width,
     )
 }
 
 // The reach of a seat, on the parts of the arrays that are in use.
-fn reach_part<'a>(
-    kinds: &'a [u16],
-    firsts: &'a [u16],
-    starts: &'a [u16],
-    literals: &'a [u16],
-    owners: &'a [u16],
+fn reach_part(
+    kinds: &[u16],
+    firsts: &[u16],
+    starts: &[u16],
+    literals: &[u16],
+    owners: &[u16],
     atoms: u16,
     many: u16,
     seat: u16,
@@ -288,51 +322,47 @@ fn reach_part<'a>(
 }
 
 // The verdict on a table and, where it is accepted, the reach of a seat.
-pub fn trace(s: &[u8], seat: u16) -> Consulted
-    ensures { λ r. ⌜ r ≡ traced (judge (now (s .entry))) seat ⌝ }
+pub fn trace(
+    s: &[u8],
+    seat: u16,
+    kinds: &mut [u16; 1024],
+    firsts: &mut [u16; 1024],
+    seconds: &mut [u16; 1024],
+    flags: &mut [u8; 1024],
+) -> Learnt
+    requires { ⌜ BlankAtoms (now kinds) (now firsts) (now seconds) ⌝ }
+    ensures { λ r. ⌜ Learns (judge (now (s .entry))) (λ G. reachOf G seat) r (now (kinds .exit)) (now (firsts .exit)) (now (seconds .exit)) (now (flags .exit)) ⌝ }
 {
-    let t = table::tables::read_table(s);
-    let unread = t.refusal;
-    if number_of(unread) != 0 {
-        return refused(unread);
-    }
-    let header = t.header;
-    let atoms = header.sizes.atoms;
-    let many = t.many;
-    let j = judge_part(
-        &t.kinds,
-        &t.firsts,
-        &t.heads,
-        &t.starts,
-        &t.literals,
-        &t.owners,
-        atoms,
-        many,
-        header.players.seats,
-    );
-    let broken = j.refusal;
-    if number_of(broken) != 0 {
-        return refused(broken);
-    }
-    let flags = reach_part(
-        &t.kinds,
-        &t.firsts,
-        &t.starts,
-        &t.literals,
-        &t.owners,
-        atoms,
-        many,
-        seat,
-    );
-    let kinds = t.kinds;
-    let firsts = t.firsts;
-    let seconds = t.seconds;
-    Consulted {
-        refusal: Refusal::Success,
-        header,
+    let mut heads = no_heads();
+    let mut starts = no_starts();
+    let mut literals = no_literals();
+    let mut owners = no_literals();
+    let mut levels = no_atoms();
+    match weigh(
+        s,
         kinds,
         firsts,
         seconds,
-        flags,
+        &mut heads,
+        &mut starts,
+        &mut literals,
+        &mut owners,
+        &mut levels,
+    ) {
+        Weighed::Refused(f) => Learnt::Refused(f),
+        Weighed::Accepted(header, many, _) => {
+            let found = reach_part(
+                kinds,
+                firsts,
+                &starts,
+                &literals,
+                &owners,
+                header.sizes.atoms,
+                many,
+                seat,
+            );
+            *flags = found;
+            Learnt::Accepted(header)
+        }
     }
 }

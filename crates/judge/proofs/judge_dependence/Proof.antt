@@ -1,8 +1,18 @@
 -- Each `return` is what the searches before it found: nothing, or the first place.
 use borrow.Author.Needs.{needs}
 use Rattle.judge.proofs.Ordering.{answering}
+use Rattle.judge.proofs.Marking.{indexing}
 use Rattle.judge.proofs.judge_dependence.Statement.{statement}
 use Rattle.judge.proofs.judge_dependence.Tie as tie
+
+no-uses-requires : tie.Need-no-uses-requires
+no-uses-requires c κs = search needs
+
+no-nexts-requires : tie.Need-no-nexts-requires
+no-nexts-requires c κs = search needs
+
+index-uses-requires : tie.Need-index-uses-requires
+index-uses-requires c κs = search (needs, indexing)
 
 slice-aggregate-lowest-leaning : tie.Need-slice-aggregate-lowest-leaning
 slice-aggregate-lowest-leaning c = search needs
@@ -11,7 +21,7 @@ slice-aggregate-lowest-leaning-2 : tie.Need-slice-aggregate-lowest-leaning-2
 slice-aggregate-lowest-leaning-2 c = search needs
 
 lowest-leaning-requires : tie.Need-lowest-leaning-requires
-lowest-leaning-requires c κs = search needs
+lowest-leaning-requires c κs = search (needs, indexing)
 
 enum-known-p : tie.Need-enum-known-p
 enum-known-p c = search needs
@@ -29,7 +39,7 @@ slice-aggregate-lowest-leaning-4 : tie.Need-slice-aggregate-lowest-leaning-4
 slice-aggregate-lowest-leaning-4 c = search needs
 
 lowest-leaning-requires-2 : tie.Need-lowest-leaning-requires-2
-lowest-leaning-requires-2 c κs = search needs
+lowest-leaning-requires-2 c κs = search (needs, indexing)
 
 enum-known-p-2 : tie.Need-enum-known-p-2
 enum-known-p-2 c = search needs
@@ -47,6 +57,9 @@ pub judge-dependence-spec : {M : Type 1} → statement M
 judge-dependence-spec =
     tie.close
     (tie.spec
+    no-uses-requires
+    no-nexts-requires
+    index-uses-requires
     slice-aggregate-lowest-leaning
     slice-aggregate-lowest-leaning-2
     lowest-leaning-requires

@@ -7,6 +7,12 @@ use Rattle.reach.proofs.reach_of.Tie as tie
 seeds-of-requires : tie.Need-seeds-of-requires
 seeds-of-requires c κs = search (needs, reaching)
 
+no-links-requires : tie.Need-no-links-requires
+no-links-requires c κs = search needs
+
+no-links-requires-2 : tie.Need-no-links-requires-2
+no-links-requires-2 c κs = search needs
+
 links-of-requires : tie.Need-links-of-requires
 links-of-requires c κs = search (needs, reaching)
 
@@ -39,6 +45,8 @@ reach-of-spec =
     tie.close
     (tie.spec
     seeds-of-requires
+    no-links-requires
+    no-links-requires-2
     links-of-requires
     sub-close-back
     part-close-back-start

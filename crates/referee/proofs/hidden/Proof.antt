@@ -1,37 +1,66 @@
-use mathlib.Core.Path.{sym, _∙_}
+-- Hidden: a refused table hides nothing, an accepted one is traced for the asking seat.
+use Rattle.referee.proofs.Asking.{refusing, accepting}
 use Rattle.referee.proofs.Looking.{traced-of, hidden-refused, hidden-accepted}
 use borrow.Author.Needs.{needs}
 use Rattle.referee.proofs.hidden.Statement.{statement}
 use Rattle.referee.proofs.hidden.Tie as tie
 
+no-atoms-requires : tie.Need-no-atoms-requires
+no-atoms-requires c κs = search needs
+
+no-atoms-requires-2 : tie.Need-no-atoms-requires-2
+no-atoms-requires-2 c κs = search needs
+
+no-atoms-requires-3 : tie.Need-no-atoms-requires-3
+no-atoms-requires-3 c κs = search needs
+
+no-flags-requires : tie.Need-no-flags-requires
+no-flags-requires c κs = search needs
+
 trace-requires : tie.Need-trace-requires
 trace-requires c κs = search needs
 
-number-of-requires : tie.Need-number-of-requires
-number-of-requires c κs = search needs
+enum-known-refusal : tie.Need-enum-known-refusal
+enum-known-refusal c = search needs
 
-returns : tie.Need-returns
-returns c =
-    let a = c .before .before .before .before .args in
-    let trace = c .before .before .trace in
-    let number-of = c .before .number-of in
-    hidden-refused (a .table .now) (trace .result) (a .asking .0) (trace .ensures) (λ q. c .if1 .taken (number-of .ensures ∙ q)) (a .moving .0) (a .choice .0)
+enum-known-header : tie.Need-enum-known-header
+enum-known-header c = search needs
 
 hidden-fit-requires : tie.Need-hidden-fit-requires
 hidden-fit-requires c κs =
-    let a = c .before .before .before .before .args in
-    let trace = c .before .before .trace in
-    let number-of = c .before .number-of in
-    traced-of (a .table .now) (trace .result) (a .asking .0) (trace .ensures) (sym (number-of .ensures) ∙ c .if1 .left)
+    let a = c .before .before .before .before .before .before .before .before .before .before .before .before .before .before .before .before .before .args in
+    let trace = c .before .before .before .before .before .before .before .trace in
+    let header = c .before .before .before .before .before .header in
+    let fits = accepting _ _ _ _ _ _ _ (trace .ensures) _ (header .given .1) in
+    traced-of (a .table .now) (a .asking .0) fits
+
+returns : tie.Need-returns
+returns c =
+    let a = c .before .before .before .before .before .before .before .before .before .before .before .before .before .args in
+    let trace = c .before .before .before .trace in
+    let refusal = c .before .refusal in
+    let unfit = refusing _ _ _ _ _ _ _ (trace .ensures) _ (refusal .given .1) in
+    hidden-refused (a .table .now) (a .asking .0) _ unfit (a .moving .0) (a .choice .0)
 
 returns-2 : tie.Need-returns-2
 returns-2 c =
-    let a = c .before .before .before .before .before .args in
-    let trace = c .before .before .before .trace in
-    let number-of = c .before .before .number-of in
-    let if1 = c .before .if1 in
-    hidden-accepted (a .table .now) (trace .result) (a .asking .0) (trace .ensures) (sym (number-of .ensures) ∙ if1 .left) (a .moving .0) (a .choice .0) (c .hidden-fit .result) (c .hidden-fit .ensures)
+    let a = c .before .before .before .before .before .before .before .before .before .before .before .before .before .before .before .before .before .before .args in
+    let trace = c .before .before .before .before .before .before .before .before .trace in
+    let header = c .before .before .before .before .before .before .header in
+    let fits = accepting _ _ _ _ _ _ _ (trace .ensures) _ (header .given .1) in
+    hidden-accepted (a .table .now) (a .asking .0) _ fits (a .moving .0) (a .choice .0) (c .hidden-fit .result) (c .hidden-fit .ensures)
 
 pub hidden-spec : {M : Type 1} → statement M
 hidden-spec =
-    tie.close (tie.spec trace-requires number-of-requires returns hidden-fit-requires returns-2)
+    tie.close
+    (tie.spec
+    no-atoms-requires
+    no-atoms-requires-2
+    no-atoms-requires-3
+    no-flags-requires
+    trace-requires
+    enum-known-refusal
+    enum-known-header
+    hidden-fit-requires
+    returns
+    returns-2)

@@ -1,8 +1,6 @@
-use Prim.Native.Nat.{ℕ}
-use mathlib.Core.Path.{sym, subst, _∙_}
-use mathlib.Core.List.{List}
-use Rattle.referee.specs.Asked.{Asked}
-use Rattle.referee.proofs.Asking.{asked-of, refusing}
+-- Offer: a refused table leaves the record, an accepted one is consulted without choices.
+use Rattle.referee.proofs.Asking.{refusing, accepting}
+use Rattle.referee.proofs.Sending.{asked-blank}
 use Rattle.referee.proofs.Offering.{offer-refused, offer-accepted}
 use borrow.Author.Needs.{needs}
 use Rattle.referee.proofs.offer.Statement.{statement}
@@ -11,44 +9,65 @@ use Rattle.referee.proofs.offer.Tie as tie
 no-choices-requires : tie.Need-no-choices-requires
 no-choices-requires c κs = search needs
 
+no-atoms-requires : tie.Need-no-atoms-requires
+no-atoms-requires c κs = search needs
+
+no-atoms-requires-2 : tie.Need-no-atoms-requires-2
+no-atoms-requires-2 c κs = search needs
+
+no-atoms-requires-3 : tie.Need-no-atoms-requires-3
+no-atoms-requires-3 c κs = search needs
+
+no-flags-requires : tie.Need-no-flags-requires
+no-flags-requires c κs = search needs
+
 consult-requires : tie.Need-consult-requires
 consult-requires c κs = search needs
 
-number-of-requires : tie.Need-number-of-requires
-number-of-requires c κs = search needs
+enum-known-refusal : tie.Need-enum-known-refusal
+enum-known-refusal c = search needs
 
-returns : tie.Need-returns
-returns c =
-    let a = c .before .before .before .before .before .before .args in
-    let no-choices = c .before .before .before .no-choices in
-    let consult = c .before .before .consult in
-    let number-of = c .before .number-of in
-    offer-refused (a .table .now) (consult .result .refusal) (a .session) (a .seat .0) (a .choice .0) (refusing (a .table .now) (consult .result) (a .session .position) (no-choices .result) (consult .ensures) (λ q. c .if1 .taken (number-of .ensures ∙ q)))
+enum-known-header : tie.Need-enum-known-header
+enum-known-header c = search needs
 
 offer-fit-requires : tie.Need-offer-fit-requires
 offer-fit-requires c κs =
-    let a = c .before .before .before .before .before .before .args in
-    let no-choices = c .before .before .before .no-choices in
-    let consult = c .before .before .consult in
-    let number-of = c .before .number-of in
-    subst (λ (x : List ℕ). Asked (consult .result) (a .session .position) x) (no-choices .ensures) (asked-of (a .table .now) (consult .result) (a .session .position) (no-choices .result) (consult .ensures) (sym (number-of .ensures) ∙ c .if1 .left))
+    let a = c .before .before .before .before .before .before .before .before .before .before .before .before .before .before .before .before .before .before .before .before .before .args in
+    let consult = c .before .before .before .before .before .before .before .consult in
+    let header = c .before .before .before .before .before .header in
+    let fits = accepting _ _ _ _ _ _ _ (consult .ensures) _ (header .given .1) in
+    let no-choices = c .before .before .before .before .before .before .before .before .before .before .before .before .before .before .before .before .before .before .no-choices in
+    asked-blank (a .table .now) (a .session .position) _ fits (no-choices .ensures)
+
+returns : tie.Need-returns
+returns c =
+    let a = c .before .before .before .before .before .before .before .before .before .before .before .before .before .before .before .before .before .args in
+    let consult = c .before .before .before .consult in
+    let refusal = c .before .refusal in
+    let unfit = refusing _ _ _ _ _ _ _ (consult .ensures) _ (refusal .given .1) in
+    offer-refused (a .table .now) _ (a .session) (a .seat .0) (a .choice .0) unfit
 
 returns-2 : tie.Need-returns-2
 returns-2 c =
-    let a = c .before .before .before .before .before .before .before .args in
-    let no-choices = c .before .before .before .before .no-choices in
-    let consult = c .before .before .before .consult in
-    let number-of = c .before .before .number-of in
-    let if1 = c .before .if1 in
-    offer-accepted (a .table .now) (consult .result) (a .session .position) (no-choices .result) (consult .ensures) (sym (number-of .ensures) ∙ if1 .left) (no-choices .ensures) (a .seat .0) (a .choice .0) (c .offer-fit .result) (a .session) (c .offer-fit .ensures)
+    let a = c .before .before .before .before .before .before .before .before .before .before .before .before .before .before .before .before .before .before .before .before .before .before .args in
+    let consult = c .before .before .before .before .before .before .before .before .consult in
+    let header = c .before .before .before .before .before .before .header in
+    let fits = accepting _ _ _ _ _ _ _ (consult .ensures) _ (header .given .1) in
+    let no-choices = c .before .before .before .before .before .before .before .before .before .before .before .before .before .before .before .before .before .before .before .no-choices in
+    offer-accepted (a .table .now) _ (a .session .position) _ fits (no-choices .ensures) (a .seat .0) (a .choice .0) (c .offer-fit .result) (a .session) (c .offer-fit .ensures)
 
 pub offer-spec : {M : Type 1} → statement M
 offer-spec =
     tie.close
     (tie.spec
     no-choices-requires
+    no-atoms-requires
+    no-atoms-requires-2
+    no-atoms-requires-3
+    no-flags-requires
     consult-requires
-    number-of-requires
-    returns
+    enum-known-refusal
+    enum-known-header
     offer-fit-requires
+    returns
     returns-2)

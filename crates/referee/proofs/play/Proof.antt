@@ -1,36 +1,66 @@
 -- Play: a refused table leaves the record, an accepted one is consulted with its joint choice.
-use mathlib.Core.Path.{sym, _∙_}
-use Rattle.referee.proofs.Asking.{refusing, asked-of}
+use Rattle.referee.proofs.Asking.{refusing, accepting, asked-of}
 use Rattle.referee.proofs.Playing.{play-refused, play-accepted}
 use borrow.Author.Needs.{needs}
 use Rattle.referee.proofs.play.Statement.{statement}
 use Rattle.referee.proofs.play.Tie as tie
 
+no-atoms-requires : tie.Need-no-atoms-requires
+no-atoms-requires c κs = search needs
+
+no-atoms-requires-2 : tie.Need-no-atoms-requires-2
+no-atoms-requires-2 c κs = search needs
+
+no-atoms-requires-3 : tie.Need-no-atoms-requires-3
+no-atoms-requires-3 c κs = search needs
+
+no-flags-requires : tie.Need-no-flags-requires
+no-flags-requires c κs = search needs
+
 consult-requires : tie.Need-consult-requires
 consult-requires c κs = search needs
 
-number-of-requires : tie.Need-number-of-requires
-number-of-requires c κs = search needs
+enum-known-refusal : tie.Need-enum-known-refusal
+enum-known-refusal c = search needs
 
-returns : tie.Need-returns
-returns c =
-    let a = c .before .before .before .before .before .before .args in
-    let found = c .before .before .consult in
-    play-refused (a .table .now) (found .result .refusal) (a .session)
-    (refusing (a .table .now) (found .result) (a .session .position) (a .session .choices) (found .ensures) (λ q. c .if1 .taken (c .before .number-of .ensures ∙ q)))
+enum-known-header : tie.Need-enum-known-header
+enum-known-header c = search needs
 
 play-fit-requires : tie.Need-play-fit-requires
 play-fit-requires c κs =
-    let a = c .before .before .before .before .before .before .args in
-    let found = c .before .before .consult in
-    asked-of (a .table .now) (found .result) (a .session .position) (a .session .choices) (found .ensures) (sym (c .before .number-of .ensures) ∙ c .if1 .left)
+    let a = c .before .before .before .before .before .before .before .before .before .before .before .before .before .before .before .before .before .before .before .before .before .args in
+    let consult = c .before .before .before .before .before .before .before .consult in
+    let header = c .before .before .before .before .before .header in
+    let fits = accepting _ _ _ _ _ _ _ (consult .ensures) _ (header .given .1) in
+    asked-of (a .table .now) (a .session .position) (a .session .choices) fits
+
+returns : tie.Need-returns
+returns c =
+    let a = c .before .before .before .before .before .before .before .before .before .before .before .before .before .before .before .before .before .args in
+    let consult = c .before .before .before .consult in
+    let refusal = c .before .refusal in
+    let unfit = refusing _ _ _ _ _ _ _ (consult .ensures) _ (refusal .given .1) in
+    play-refused (a .table .now) _ (a .session) unfit
 
 returns-2 : tie.Need-returns-2
 returns-2 c =
-    let a = c .before .before .before .before .before .before .before .args in
-    let found = c .before .before .before .consult in
-    play-accepted (a .table .now) (found .result) (a .session .position) (a .session .choices) (found .ensures)
-    (sym (c .before .before .number-of .ensures) ∙ c .before .if1 .left) (c .play-fit .result) (a .session) (c .play-fit .ensures)
+    let a = c .before .before .before .before .before .before .before .before .before .before .before .before .before .before .before .before .before .before .before .before .before .before .args in
+    let consult = c .before .before .before .before .before .before .before .before .consult in
+    let header = c .before .before .before .before .before .before .header in
+    let fits = accepting _ _ _ _ _ _ _ (consult .ensures) _ (header .given .1) in
+    play-accepted (a .table .now) _ (a .session .position) (a .session .choices) fits (c .play-fit .result) (a .session) (c .play-fit .ensures)
 
 pub play-spec : {M : Type 1} → statement M
-play-spec = tie.close (tie.spec consult-requires number-of-requires returns play-fit-requires returns-2)
+play-spec =
+    tie.close
+    (tie.spec
+    no-atoms-requires
+    no-atoms-requires-2
+    no-atoms-requires-3
+    no-flags-requires
+    consult-requires
+    enum-known-refusal
+    enum-known-header
+    play-fit-requires
+    returns
+    returns-2)

@@ -1,55 +1,90 @@
-use mathlib.Core.Path.{sym, _∙_}
-use Rattle.verdict.proofs.Consulting.{was-read, unread-consulted, judgeable, broken-consulted, modelable, fit-consulted}
+-- The answer of `weigh` says whether the table is accepted; if it is, its arrays are asked for the model.
+use Rattle.verdict.proofs.Consulting.{says-unfit, says-fit, counts, modelable, fit-consulted}
 use borrow.Author.Needs.{needs}
 use Rattle.verdict.proofs.consult.Statement.{statement}
 use Rattle.verdict.proofs.consult.Tie as tie
 
-read-table-requires : tie.Need-read-table-requires
-read-table-requires c κs = search needs
+no-heads-requires : tie.Need-no-heads-requires
+no-heads-requires c κs = search needs
 
-number-of-requires : tie.Need-number-of-requires
-number-of-requires c κs = search needs
+no-starts-requires : tie.Need-no-starts-requires
+no-starts-requires c κs = search needs
 
-refused-requires : tie.Need-refused-requires
-refused-requires c κs = search needs
+no-literals-requires : tie.Need-no-literals-requires
+no-literals-requires c κs = search needs
 
-returns : tie.Need-returns
-returns c =
-    unread-consulted (c .before .before .before .before .before .args .s .now) (c .before .before .before .read-table .result) (c .before .before .before .read-table .ensures) (λ q. c .before .if1 .taken (c .before .before .number-of .ensures ∙ q)) _ _ _ (c .refused .ensures)
+no-literals-requires-2 : tie.Need-no-literals-requires-2
+no-literals-requires-2 c κs = search needs
 
-judge-part-requires : tie.Need-judge-part-requires
-judge-part-requires c κs =
-    judgeable (was-read (c .before .before .before .before .before .before .before .before .before .before .before .before .before .before .before .before .before .before .args .s .now) (c .before .before .before .before .before .before .before .before .before .before .before .before .before .before .before .before .read-table .result) (c .before .before .before .before .before .before .before .before .before .before .before .before .before .before .before .before .read-table .ensures) (sym (c .before .before .before .before .before .before .before .before .before .before .before .before .before .before .before .number-of .ensures) ∙ c .before .before .before .before .before .before .before .before .before .before .before .before .before .before .if1 .left))
+no-atoms-requires : tie.Need-no-atoms-requires
+no-atoms-requires c κs = search needs
 
-number-of-requires-2 : tie.Need-number-of-requires-2
-number-of-requires-2 c κs = search needs
+weigh-requires : tie.Need-weigh-requires
+weigh-requires c κs = search needs
 
-refused-requires-2 : tie.Need-refused-requires-2
-refused-requires-2 c κs = search needs
+enum-known-f : tie.Need-enum-known-f
+enum-known-f c = search needs
 
-returns-2 : tie.Need-returns-2
-returns-2 c =
-    broken-consulted (was-read (c .before .before .before .before .before .before .before .before .before .before .before .before .before .before .before .before .before .before .before .before .before .before .args .s .now) (c .before .before .before .before .before .before .before .before .before .before .before .before .before .before .before .before .before .before .before .before .read-table .result) (c .before .before .before .before .before .before .before .before .before .before .before .before .before .before .before .before .before .before .before .before .read-table .ensures) (sym (c .before .before .before .before .before .before .before .before .before .before .before .before .before .before .before .before .before .before .before .number-of .ensures) ∙ c .before .before .before .before .before .before .before .before .before .before .before .before .before .before .before .before .before .before .if1 .left)) (c .before .before .before .judge-part .ensures) (λ q. c .before .if2 .taken (c .before .before .number-of2 .ensures ∙ q)) _ _ _ (c .refused2 .ensures)
+enum-known-header : tie.Need-enum-known-header
+enum-known-header c = search needs
+
+slice-aggregate-truth-part : tie.Need-slice-aggregate-truth-part
+slice-aggregate-truth-part c =
+    let weigh = c .before .before .before .before .before .before .before .before .before .before .weigh in
+    let header = c .before .before .before .before .before .before .before .before .header in
+    let fits = says-fit _ _ _ _ _ _ _ _ _ _ (weigh .ensures) _ _ _ (header .given .1) in
+    counts fits .heads-count
+
+slice-aggregate-truth-part-2 : tie.Need-slice-aggregate-truth-part-2
+slice-aggregate-truth-part-2 c =
+    let weigh = c .before .before .before .before .before .before .before .before .before .before .before .weigh in
+    let header = c .before .before .before .before .before .before .before .before .before .header in
+    let fits = says-fit _ _ _ _ _ _ _ _ _ _ (weigh .ensures) _ _ _ (header .given .1) in
+    counts fits .starts-count
+
+slice-aggregate-truth-part-3 : tie.Need-slice-aggregate-truth-part-3
+slice-aggregate-truth-part-3 c =
+    let weigh = c .before .before .before .before .before .before .before .before .before .before .before .before .weigh in
+    let header = c .before .before .before .before .before .before .before .before .before .before .header in
+    let fits = says-fit _ _ _ _ _ _ _ _ _ _ (weigh .ensures) _ _ _ (header .given .1) in
+    counts fits .literals-count
 
 truth-part-requires : tie.Need-truth-part-requires
 truth-part-requires c κs =
-    modelable (was-read (c .before .before .before .before .before .before .before .before .before .before .before .before .before .before .before .before .before .before .before .before .before .before .before .before .before .before .before .before .before .before .before .before .before .before .before .before .before .before .args .s .now) (c .before .before .before .before .before .before .before .before .before .before .before .before .before .before .before .before .before .before .before .before .before .before .before .before .before .before .before .before .before .before .before .before .before .before .before .before .read-table .result) (c .before .before .before .before .before .before .before .before .before .before .before .before .before .before .before .before .before .before .before .before .before .before .before .before .before .before .before .before .before .before .before .before .before .before .before .before .read-table .ensures) (sym (c .before .before .before .before .before .before .before .before .before .before .before .before .before .before .before .before .before .before .before .before .before .before .before .before .before .before .before .before .before .before .before .before .before .before .before .number-of .ensures) ∙ c .before .before .before .before .before .before .before .before .before .before .before .before .before .before .before .before .before .before .before .before .before .before .before .before .before .before .before .before .before .before .before .before .before .before .if1 .left)) (c .before .before .before .before .before .before .before .before .before .before .before .before .before .before .before .before .before .before .before .judge-part .ensures) (sym (c .before .before .before .before .before .before .before .before .before .before .before .before .before .before .before .before .before .before .number-of2 .ensures) ∙ c .before .before .before .before .before .before .before .before .before .before .before .before .before .before .before .before .before .if2 .left)
+    let weigh = c .before .before .before .before .before .before .before .before .before .before .before .before .before .weigh in
+    let header = c .before .before .before .before .before .before .before .before .before .before .before .header in
+    let fits = says-fit _ _ _ _ _ _ _ _ _ _ (weigh .ensures) _ _ _ (header .given .1) in
+    modelable fits
 
-returns-3 : tie.Need-returns-3
-returns-3 c =
-    fit-consulted (was-read (c .before .before .before .before .before .before .before .before .before .before .before .before .before .before .before .before .before .before .before .before .before .before .before .before .before .before .before .before .before .before .before .before .before .before .before .before .before .before .before .before .before .before .args .s .now) (c .before .before .before .before .before .before .before .before .before .before .before .before .before .before .before .before .before .before .before .before .before .before .before .before .before .before .before .before .before .before .before .before .before .before .before .before .before .before .before .before .read-table .result) (c .before .before .before .before .before .before .before .before .before .before .before .before .before .before .before .before .before .before .before .before .before .before .before .before .before .before .before .before .before .before .before .before .before .before .before .before .before .before .before .before .read-table .ensures) (sym (c .before .before .before .before .before .before .before .before .before .before .before .before .before .before .before .before .before .before .before .before .before .before .before .before .before .before .before .before .before .before .before .before .before .before .before .before .before .before .before .number-of .ensures) ∙ c .before .before .before .before .before .before .before .before .before .before .before .before .before .before .before .before .before .before .before .before .before .before .before .before .before .before .before .before .before .before .before .before .before .before .before .before .before .before .if1 .left)) (c .before .before .before .before .before .before .before .before .before .before .before .before .before .before .before .before .before .before .before .before .before .before .before .judge-part .ensures) (sym (c .before .before .before .before .before .before .before .before .before .before .before .before .before .before .before .before .before .before .before .before .before .before .number-of2 .ensures) ∙ c .before .before .before .before .before .before .before .before .before .before .before .before .before .before .before .before .before .before .before .before .before .if2 .left) _ _ _ (c .before .before .before .truth-part .ensures)
+returns : tie.Need-returns
+returns c =
+    let weigh = c .before .before .before .weigh in
+    let f = c .before .f in
+    says-unfit _ _ _ _ _ _ _ _ _ _ (weigh .ensures) _ (f .given .1)
+
+returns-2 : tie.Need-returns-2
+returns-2 c =
+    let a = c .before .before .before .before .before .before .before .before .before .before .before .before .before .before .before .before .before .before .before .before .before .before .before .before .before .before .before .before .before .args in
+    let weigh = c .before .before .before .before .before .before .before .before .before .before .before .before .before .before .weigh in
+    let header = c .before .before .before .before .before .before .before .before .before .before .before .before .header in
+    let fits = says-fit _ _ _ _ _ _ _ _ _ _ (weigh .ensures) _ _ _ (header .given .1) in
+    fit-consulted (a .s .now) fits _ _ _ (c .truth-part .ensures)
 
 pub consult-spec : {M : Type 1} → statement M
 consult-spec =
     tie.close
     (tie.spec
-    read-table-requires
-    number-of-requires
-    refused-requires
-    returns
-    judge-part-requires
-    number-of-requires-2
-    refused-requires-2
-    returns-2
+    no-heads-requires
+    no-starts-requires
+    no-literals-requires
+    no-literals-requires-2
+    no-atoms-requires
+    weigh-requires
+    enum-known-f
+    enum-known-header
+    slice-aggregate-truth-part
+    slice-aggregate-truth-part-2
+    slice-aggregate-truth-part-3
     truth-part-requires
-    returns-3)
+    returns
+    returns-2)

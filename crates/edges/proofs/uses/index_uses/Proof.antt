@@ -10,12 +10,6 @@ Inv-loop to first₀ next₀ k₀ first next k = Indexing to first next k
 abbrev μ-loop : tie.MeasureT-loop
 μ-loop to first₀ next₀ k₀ first next k = k
 
-no-uses-requires : tie.Need-no-uses-requires Inv-loop μ-loop
-no-uses-requires c κs = search needs
-
-no-nexts-requires : tie.Need-no-nexts-requires Inv-loop μ-loop
-no-nexts-requires c κs = search needs
-
 loop-holds : tie.Need-loop-holds Inv-loop μ-loop
 loop-holds c = search (needs, indexes)
 
@@ -34,14 +28,14 @@ wide-requires c κs = search needs
 mul-next : tie.Need-mul-next Inv-loop μ-loop
 mul-next c = search (needs, indexes)
 
-array-read-next : tie.Need-array-read-next Inv-loop μ-loop
-array-read-next c = search (needs, indexes)
+element-copy-out-next : tie.Need-element-copy-out-next Inv-loop μ-loop
+element-copy-out-next c = search (needs, indexes)
 
 mul-next-2 : tie.Need-mul-next-2 Inv-loop μ-loop
 mul-next-2 c = search needs
 
-array-write-next : tie.Need-array-write-next Inv-loop μ-loop
-array-write-next c = search needs
+element-write-next : tie.Need-element-write-next Inv-loop μ-loop
+element-write-next c = search needs
 
 cast-first : tie.Need-cast-first Inv-loop μ-loop
 cast-first c = search needs
@@ -49,8 +43,8 @@ cast-first c = search needs
 mul-first : tie.Need-mul-first Inv-loop μ-loop
 mul-first c = search (needs, indexes)
 
-array-write-first : tie.Need-array-write-first Inv-loop μ-loop
-array-write-first c = search (needs, indexes)
+element-write-first : tie.Need-element-write-first Inv-loop μ-loop
+element-write-first c = search (needs, indexes)
 
 loop-less : tie.Need-loop-less Inv-loop μ-loop
 loop-less c = search needs
@@ -67,20 +61,18 @@ index-uses-spec =
     (tie.spec
     Inv-loop
     μ-loop
-    no-uses-requires
-    no-nexts-requires
     loop-holds
     sub-k
     mul-wide
     shared-slice-read-wide
     wide-requires
     mul-next
-    array-read-next
+    element-copy-out-next
     mul-next-2
-    array-write-next
+    element-write-next
     cast-first
     mul-first
-    array-write-first
+    element-write-first
     loop-less
     loop-again
     returns)

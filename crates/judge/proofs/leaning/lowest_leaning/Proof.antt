@@ -10,10 +10,10 @@ use Rattle.judge.proofs.leaning.lowest_leaning.Statement.{statement}
 use Rattle.judge.proofs.leaning.lowest_leaning.Tie as tie
 
 abbrev Inv-loop : tie.InvT-loop
-Inv-loop kinds owners literals these those marks p₀ p = Clear (HeldEdges kinds owners literals) (Leans these those) p
+Inv-loop kinds owners literals first next these those marks p₀ p = Clear (HeldEdges kinds owners literals) (Leans these those) p
 
 abbrev μ-loop : tie.MeasureT-loop
-μ-loop kinds owners literals these those marks p₀ p = length kinds - p
+μ-loop kinds owners literals first next these those marks p₀ p = length kinds - p
 
 marks-of-requires : tie.Need-marks-of-requires Inv-loop μ-loop
 marks-of-requires c κs = search (needs, searches, leaning)

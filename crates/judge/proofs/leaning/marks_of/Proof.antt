@@ -7,11 +7,11 @@ use Rattle.judge.proofs.leaning.marks_of.Tie as tie
 seeds-of-requires : tie.Need-seeds-of-requires
 seeds-of-requires c κs = search needs
 
-close-back-requires : tie.Need-close-back-requires
-close-back-requires c κs = search (needs, leaning)
+dependents-requires : tie.Need-dependents-requires
+dependents-requires c κs = search needs
 
 returns : tie.Need-returns
 returns c = search (needs, leaning)
 
 pub marks-of-spec : {M : Type 1} → statement M
-marks-of-spec = tie.close (tie.spec seeds-of-requires close-back-requires returns)
+marks-of-spec = tie.close (tie.spec seeds-of-requires dependents-requires returns)

@@ -8,19 +8,13 @@ use Rattle.reach.proofs.links.links_of.Statement.{statement}
 use Rattle.reach.proofs.links.links_of.Tie as tie
 
 abbrev Inv-loop : tie.InvT-loop
-Inv-loop kinds firsts literals owners trues from₀ to₀ many₀ q₀ from to many q = (q ≤ length kinds) × Linked kinds firsts literals owners (length literals) q from to many
+Inv-loop kinds firsts literals owners from₀ to₀ trues many₀ q₀ from to many q = (q ≤ length kinds) × Linked kinds firsts literals owners (length literals) q from to many
 
 abbrev μ-loop : tie.MeasureT-loop
-μ-loop kinds firsts literals owners trues from₀ to₀ many₀ q₀ from to many q = length kinds - q
+μ-loop kinds firsts literals owners from₀ to₀ trues many₀ q₀ from to many q = length kinds - q
 
 trues-of-requires : tie.Need-trues-of-requires Inv-loop μ-loop
 trues-of-requires c κs = search needs
-
-no-links-requires : tie.Need-no-links-requires Inv-loop μ-loop
-no-links-requires c κs = search needs
-
-no-links-requires-2 : tie.Need-no-links-requires-2 Inv-loop μ-loop
-no-links-requires-2 c κs = search needs
 
 link-bodies-requires : tie.Need-link-bodies-requires Inv-loop μ-loop
 link-bodies-requires c κs = search (needs, linkings)
@@ -50,8 +44,6 @@ links-of-spec =
     Inv-loop
     μ-loop
     trues-of-requires
-    no-links-requires
-    no-links-requires-2
     link-bodies-requires
     loop-holds
     link-onward-requires

@@ -2,6 +2,7 @@ use native.Mathlib.Omega.{arith}
 use Rattle.gdl.specs.Computed.{reachOf}
 use Rattle.referee.proofs.Looking.{seat-out, seat-in, seat-small, move-out, move-small, is-seen, is-hidden, traced-fit}
 use Rattle.calls.proofs.Returns.{hidden-no-asking, hidden-no-moving, hidden-no-move}
+use Rattle.verdict.specs.Consulted.{found}
 use borrow.Author.Needs.{needs}
 use Rattle.referee.proofs.looks.hidden_fit.Statement.{statement}
 use Rattle.referee.proofs.looks.hidden_fit.Tie as tie
@@ -12,23 +13,26 @@ limits-of-requires c κs = search needs
 returns : tie.Need-returns
 returns c =
     let a = c .before .before .before .before .args in
+    let fd = found (a .header) (a .kinds .now) (a .firsts .now) (a .seconds .now) (a .flags .now) in
     let limits-of = c .before .before .before .limits-of in
-    λ G ok e. hidden-no-asking G (a .asking .0) (a .moving .0) (a .choice .0) (seat-out (a .found) (limits-of .result) (limits-of .ensures) G ok (reachOf G (a .asking .0)) e (a .asking .0) (c .if1 .taken))
+    λ G ok e. hidden-no-asking G (a .asking .0) (a .moving .0) (a .choice .0) (seat-out fd (limits-of .result) (limits-of .ensures) G ok (reachOf G (a .asking .0)) e (a .asking .0) (c .if1 .taken))
 
 returns-2 : tie.Need-returns-2
 returns-2 c =
     let a = c .before .before .before .before .before .before .before .args in
+    let fd = found (a .header) (a .kinds .now) (a .firsts .now) (a .seconds .now) (a .flags .now) in
     let limits-of = c .before .before .before .before .before .before .limits-of in
     let if1 = c .before .before .before .if1 in
-    λ G ok e. hidden-no-moving G (a .asking .0) (a .moving .0) (a .choice .0) (seat-in (a .found) (limits-of .result) (limits-of .ensures) G ok (reachOf G (a .asking .0)) e (a .asking .0) (if1 .left)) (seat-out (a .found) (limits-of .result) (limits-of .ensures) G ok (reachOf G (a .asking .0)) e (a .moving .0) (c .if2 .taken))
+    λ G ok e. hidden-no-moving G (a .asking .0) (a .moving .0) (a .choice .0) (seat-in fd (limits-of .result) (limits-of .ensures) G ok (reachOf G (a .asking .0)) e (a .asking .0) (if1 .left)) (seat-out fd (limits-of .result) (limits-of .ensures) G ok (reachOf G (a .asking .0)) e (a .moving .0) (c .if2 .taken))
 
 returns-3 : tie.Need-returns-3
 returns-3 c =
     let a = c .before .before .before .before .before .before .before .before .before .before .args in
+    let fd = found (a .header) (a .kinds .now) (a .firsts .now) (a .seconds .now) (a .flags .now) in
     let limits-of = c .before .before .before .before .before .before .before .before .before .limits-of in
     let if1 = c .before .before .before .before .before .before .if1 in
     let if2 = c .before .before .before .if2 in
-    λ G ok e. hidden-no-move G (a .asking .0) (a .moving .0) (a .choice .0) (seat-in (a .found) (limits-of .result) (limits-of .ensures) G ok (reachOf G (a .asking .0)) e (a .asking .0) (if1 .left)) (seat-in (a .found) (limits-of .result) (limits-of .ensures) G ok (reachOf G (a .asking .0)) e (a .moving .0) (if2 .left)) (move-out (a .found) (limits-of .result) (limits-of .ensures) G ok (reachOf G (a .asking .0)) e (a .choice .0) (c .if3 .taken))
+    λ G ok e. hidden-no-move G (a .asking .0) (a .moving .0) (a .choice .0) (seat-in fd (limits-of .result) (limits-of .ensures) G ok (reachOf G (a .asking .0)) e (a .asking .0) (if1 .left)) (seat-in fd (limits-of .result) (limits-of .ensures) G ok (reachOf G (a .asking .0)) e (a .moving .0) (if2 .left)) (move-out fd (limits-of .result) (limits-of .ensures) G ok (reachOf G (a .asking .0)) e (a .choice .0) (c .if3 .taken))
 
 marks-in-requires : tie.Need-marks-in-requires
 marks-in-requires c κs =
@@ -50,31 +54,34 @@ add-if4 c = search needs
 array-read-if4 : tie.Need-array-read-if4
 array-read-if4 c =
     let a = c .before .before .before .before .before .before .before .before .before .before .before .before .before .args in
+    let fd = found (a .header) (a .kinds .now) (a .firsts .now) (a .seconds .now) (a .flags .now) in
     let pre = c .before .before .before .before .before .before .before .before .before .before .before .before .before .pre in
     let limits-of = c .before .before .before .before .before .before .before .before .before .before .before .before .limits-of in
     let if2 = c .before .before .before .before .before .before .if2 in
     let if3 = c .before .before .before .if3 in
-    omega (arith, seat-small (a .found) (limits-of .result) (limits-of .ensures) (pre .game) (pre .accepted) (reachOf (pre .game) (a .asking .0)) (pre .is) (a .moving .0) (if2 .left), move-small (a .found) (limits-of .result) (limits-of .ensures) (pre .game) (pre .accepted) (reachOf (pre .game) (a .asking .0)) (pre .is) (a .choice .0) (if3 .left))
+    omega (arith, seat-small fd (limits-of .result) (limits-of .ensures) (pre .game) (pre .accepted) (reachOf (pre .game) (a .asking .0)) (pre .is) (a .moving .0) (if2 .left), move-small fd (limits-of .result) (limits-of .ensures) (pre .game) (pre .accepted) (reachOf (pre .game) (a .asking .0)) (pre .is) (a .choice .0) (if3 .left))
 
 returns-4 : tie.Need-returns-4
 returns-4 c =
     let a = c .before .before .before .before .before .before .before .before .before .before .before .before .before .before .args in
+    let fd = found (a .header) (a .kinds .now) (a .firsts .now) (a .seconds .now) (a .flags .now) in
     let limits-of = c .before .before .before .before .before .before .before .before .before .before .before .before .before .limits-of in
     let if1 = c .before .before .before .before .before .before .before .before .before .before .if1 in
     let if2 = c .before .before .before .before .before .before .before .if2 in
     let if3 = c .before .before .before .before .if3 in
     let marks-in = c .before .before .before .marks-in in
-    λ G ok e. is-seen (a .found) (limits-of .result) (limits-of .ensures) G ok (a .asking .0) e (a .moving .0) (a .choice .0) (if2 .left) (if3 .left) (marks-in .result) (marks-in .ensures) (seat-in (a .found) (limits-of .result) (limits-of .ensures) G ok (reachOf G (a .asking .0)) e (a .asking .0) (if1 .left)) (c .if4 .taken)
+    λ G ok e. is-seen fd (limits-of .result) (limits-of .ensures) G ok (a .asking .0) e (a .moving .0) (a .choice .0) (if2 .left) (if3 .left) (marks-in .result) (marks-in .ensures) (seat-in fd (limits-of .result) (limits-of .ensures) G ok (reachOf G (a .asking .0)) e (a .asking .0) (if1 .left)) (c .if4 .taken)
 
 returns-5 : tie.Need-returns-5
 returns-5 c =
     let a = c .before .before .before .before .before .before .before .before .before .before .before .before .before .before .args in
+    let fd = found (a .header) (a .kinds .now) (a .firsts .now) (a .seconds .now) (a .flags .now) in
     let limits-of = c .before .before .before .before .before .before .before .before .before .before .before .before .before .limits-of in
     let if1 = c .before .before .before .before .before .before .before .before .before .before .if1 in
     let if2 = c .before .before .before .before .before .before .before .if2 in
     let if3 = c .before .before .before .before .if3 in
     let marks-in = c .before .before .before .marks-in in
-    λ G ok e. is-hidden (a .found) (limits-of .result) (limits-of .ensures) G ok (a .asking .0) e (a .moving .0) (a .choice .0) (if2 .left) (if3 .left) (marks-in .result) (marks-in .ensures) (seat-in (a .found) (limits-of .result) (limits-of .ensures) G ok (reachOf G (a .asking .0)) e (a .asking .0) (if1 .left)) (c .if4 .left)
+    λ G ok e. is-hidden fd (limits-of .result) (limits-of .ensures) G ok (a .asking .0) e (a .moving .0) (a .choice .0) (if2 .left) (if3 .left) (marks-in .result) (marks-in .ensures) (seat-in fd (limits-of .result) (limits-of .ensures) G ok (reachOf G (a .asking .0)) e (a .asking .0) (if1 .left)) (c .if4 .left)
 
 pub hidden-fit-spec : {M : Type 1} → statement M
 hidden-fit-spec =

@@ -3,6 +3,7 @@ use Rattle.referee.proofs.Asking.{fit-of}
 use Rattle.referee.proofs.Offering.{misshapen, well-shaped, is-over, goes-on, no-seat, a-seat, seat-few, no-move, a-move, move-few, has-chosen, not-chosen, is-illegal, is-legal}
 use Rattle.calls.proofs.Returns.{offer-bad-shape, offer-over, offer-no-seat, offer-no-move, offer-chosen, offer-illegal, offer-stored}
 use Rattle.gdl.specs.Flags.{blank}
+use Rattle.verdict.specs.Consulted.{found}
 use borrow.Author.Needs.{needs}
 use Rattle.referee.proofs.moves.offer_fit.Statement.{statement}
 use Rattle.referee.proofs.moves.offer_fit.Tie as tie
@@ -16,9 +17,10 @@ shaped-requires c κs = search needs
 returns : tie.Need-returns
 returns c =
     let a = c .before .before .before .args in
+    let fd = found (a .header) (a .kinds .now) (a .firsts .now) (a .seconds .now) (a .flags .now) in
     let limits-of = c .before .before .limits-of in
     let shaped = c .before .shaped in
-    λ G ok e. offer-bad-shape G (a .session) (a .seat .0) (a .choice .0) (misshapen (a .session) (a .found) (limits-of .result) (limits-of .ensures) G ok (blank 8) e (shaped .result) (shaped .ensures) (c .if1 .taken))
+    λ G ok e. offer-bad-shape G (a .session) (a .seat .0) (a .choice .0) (misshapen (a .session) fd (limits-of .result) (limits-of .ensures) G ok (blank 8) e (shaped .result) (shaped .ensures) (c .if1 .taken))
 
 marks-in-requires : tie.Need-marks-in-requires
 marks-in-requires c κs =
@@ -31,32 +33,35 @@ array-read-if2 c = search needs
 returns-2 : tie.Need-returns-2
 returns-2 c =
     let a = c .before .before .before .before .before .args in
+    let fd = found (a .header) (a .kinds .now) (a .firsts .now) (a .seconds .now) (a .flags .now) in
     let limits-of = c .before .before .before .before .limits-of in
     let shaped = c .before .before .before .shaped in
     let if1 = c .before .before .if1 in
     let marks-in = c .before .marks-in in
-    λ G ok e. offer-over G (a .session) (a .seat .0) (a .choice .0) (well-shaped (a .session) (a .found) (limits-of .result) (limits-of .ensures) G ok (blank 8) e (shaped .result) (shaped .ensures) (if1 .left)) (is-over (a .session) (a .found) (limits-of .result) (limits-of .ensures) G ok (blank 8) e (marks-in .result) (marks-in .ensures) (c .if2 .taken))
+    λ G ok e. offer-over G (a .session) (a .seat .0) (a .choice .0) (well-shaped (a .session) fd (limits-of .result) (limits-of .ensures) G ok (blank 8) e (shaped .result) (shaped .ensures) (if1 .left)) (is-over (a .session) fd (limits-of .result) (limits-of .ensures) G ok (blank 8) e (marks-in .result) (marks-in .ensures) (c .if2 .taken))
 
 returns-3 : tie.Need-returns-3
 returns-3 c =
     let a = c .before .before .before .before .before .before .before .before .args in
+    let fd = found (a .header) (a .kinds .now) (a .firsts .now) (a .seconds .now) (a .flags .now) in
     let limits-of = c .before .before .before .before .before .before .before .limits-of in
     let shaped = c .before .before .before .before .before .before .shaped in
     let if1 = c .before .before .before .before .before .if1 in
     let marks-in = c .before .before .before .before .marks-in in
     let if2 = c .before .before .before .if2 in
-    λ G ok e. offer-no-seat G (a .session) (a .seat .0) (a .choice .0) (well-shaped (a .session) (a .found) (limits-of .result) (limits-of .ensures) G ok (blank 8) e (shaped .result) (shaped .ensures) (if1 .left)) (goes-on (a .session) (a .found) (limits-of .result) (limits-of .ensures) G ok (blank 8) e (marks-in .result) (marks-in .ensures) (if2 .left)) (no-seat (a .session) (a .found) (limits-of .result) (limits-of .ensures) G ok (blank 8) e (a .seat .0) (c .if3 .taken))
+    λ G ok e. offer-no-seat G (a .session) (a .seat .0) (a .choice .0) (well-shaped (a .session) fd (limits-of .result) (limits-of .ensures) G ok (blank 8) e (shaped .result) (shaped .ensures) (if1 .left)) (goes-on (a .session) fd (limits-of .result) (limits-of .ensures) G ok (blank 8) e (marks-in .result) (marks-in .ensures) (if2 .left)) (no-seat (a .session) fd (limits-of .result) (limits-of .ensures) G ok (blank 8) e (a .seat .0) (c .if3 .taken))
 
 returns-4 : tie.Need-returns-4
 returns-4 c =
     let a = c .before .before .before .before .before .before .before .before .before .before .before .args in
+    let fd = found (a .header) (a .kinds .now) (a .firsts .now) (a .seconds .now) (a .flags .now) in
     let limits-of = c .before .before .before .before .before .before .before .before .before .before .limits-of in
     let shaped = c .before .before .before .before .before .before .before .before .before .shaped in
     let if1 = c .before .before .before .before .before .before .before .before .if1 in
     let marks-in = c .before .before .before .before .before .before .before .marks-in in
     let if2 = c .before .before .before .before .before .before .if2 in
     let if3 = c .before .before .before .if3 in
-    λ G ok e. offer-no-move G (a .session) (a .seat .0) (a .choice .0) (well-shaped (a .session) (a .found) (limits-of .result) (limits-of .ensures) G ok (blank 8) e (shaped .result) (shaped .ensures) (if1 .left)) (goes-on (a .session) (a .found) (limits-of .result) (limits-of .ensures) G ok (blank 8) e (marks-in .result) (marks-in .ensures) (if2 .left)) (a-seat (a .session) (a .found) (limits-of .result) (limits-of .ensures) G ok (blank 8) e (a .seat .0) (if3 .left)) (no-move (a .session) (a .found) (limits-of .result) (limits-of .ensures) G ok (blank 8) e (a .seat .0) (a .choice .0) (c .if4 .taken))
+    λ G ok e. offer-no-move G (a .session) (a .seat .0) (a .choice .0) (well-shaped (a .session) fd (limits-of .result) (limits-of .ensures) G ok (blank 8) e (shaped .result) (shaped .ensures) (if1 .left)) (goes-on (a .session) fd (limits-of .result) (limits-of .ensures) G ok (blank 8) e (marks-in .result) (marks-in .ensures) (if2 .left)) (a-seat (a .session) fd (limits-of .result) (limits-of .ensures) G ok (blank 8) e (a .seat .0) (if3 .left)) (no-move (a .session) fd (limits-of .result) (limits-of .ensures) G ok (blank 8) e (a .seat .0) (a .choice .0) (c .if4 .taken))
 
 cast-at : tie.Need-cast-at
 cast-at c = search needs
@@ -67,14 +72,16 @@ mul-if5 c = search needs
 array-read-if5 : tie.Need-array-read-if5
 array-read-if5 c =
     let a = c .before .before .before .before .before .before .before .before .before .before .before .before .before .args in
+    let fd = found (a .header) (a .kinds .now) (a .firsts .now) (a .seconds .now) (a .flags .now) in
     let pre = c .before .before .before .before .before .before .before .before .before .before .before .before .before .pre in
     let limits-of = c .before .before .before .before .before .before .before .before .before .before .before .before .limits-of in
     let if3 = c .before .before .before .before .before .if3 in
-    omega (arith, seat-few (a .session) (a .found) (limits-of .result) (limits-of .ensures) (pre .game) (pre .accepted) (blank 8) (pre .is) (a .seat .0) (if3 .left))
+    omega (arith, seat-few (a .session) fd (limits-of .result) (limits-of .ensures) (pre .game) (pre .accepted) (blank 8) (pre .is) (a .seat .0) (if3 .left))
 
 returns-5 : tie.Need-returns-5
 returns-5 c =
     let a = c .before .before .before .before .before .before .before .before .before .before .before .before .before .before .args in
+    let fd = found (a .header) (a .kinds .now) (a .firsts .now) (a .seconds .now) (a .flags .now) in
     let limits-of = c .before .before .before .before .before .before .before .before .before .before .before .before .before .limits-of in
     let shaped = c .before .before .before .before .before .before .before .before .before .before .before .before .shaped in
     let if1 = c .before .before .before .before .before .before .before .before .before .before .before .if1 in
@@ -82,7 +89,7 @@ returns-5 c =
     let if2 = c .before .before .before .before .before .before .before .before .before .if2 in
     let if3 = c .before .before .before .before .before .before .if3 in
     let if4 = c .before .before .before .if4 in
-    λ G ok e. offer-chosen G (a .session) (a .seat .0) (a .choice .0) (well-shaped (a .session) (a .found) (limits-of .result) (limits-of .ensures) G ok (blank 8) e (shaped .result) (shaped .ensures) (if1 .left)) (goes-on (a .session) (a .found) (limits-of .result) (limits-of .ensures) G ok (blank 8) e (marks-in .result) (marks-in .ensures) (if2 .left)) (a-seat (a .session) (a .found) (limits-of .result) (limits-of .ensures) G ok (blank 8) e (a .seat .0) (if3 .left)) (a-move (a .session) (a .found) (limits-of .result) (limits-of .ensures) G ok (blank 8) e (a .seat .0) (a .choice .0) (if4 .left)) (has-chosen (a .session) (a .found) (limits-of .result) (limits-of .ensures) G ok (blank 8) e (a .seat .0) (c .if5 .taken))
+    λ G ok e. offer-chosen G (a .session) (a .seat .0) (a .choice .0) (well-shaped (a .session) fd (limits-of .result) (limits-of .ensures) G ok (blank 8) e (shaped .result) (shaped .ensures) (if1 .left)) (goes-on (a .session) fd (limits-of .result) (limits-of .ensures) G ok (blank 8) e (marks-in .result) (marks-in .ensures) (if2 .left)) (a-seat (a .session) fd (limits-of .result) (limits-of .ensures) G ok (blank 8) e (a .seat .0) (if3 .left)) (a-move (a .session) fd (limits-of .result) (limits-of .ensures) G ok (blank 8) e (a .seat .0) (a .choice .0) (if4 .left)) (has-chosen (a .session) fd (limits-of .result) (limits-of .ensures) G ok (blank 8) e (a .seat .0) (c .if5 .taken))
 
 marks-in-requires-2 : tie.Need-marks-in-requires-2
 marks-in-requires-2 c κs =
@@ -101,15 +108,17 @@ add-if6 c = search needs
 array-read-if6 : tie.Need-array-read-if6
 array-read-if6 c =
     let a = c .before .before .before .before .before .before .before .before .before .before .before .before .before .before .before .before .args in
+    let fd = found (a .header) (a .kinds .now) (a .firsts .now) (a .seconds .now) (a .flags .now) in
     let pre = c .before .before .before .before .before .before .before .before .before .before .before .before .before .before .before .before .pre in
     let limits-of = c .before .before .before .before .before .before .before .before .before .before .before .before .before .before .before .limits-of in
     let if3 = c .before .before .before .before .before .before .before .before .if3 in
     let if4 = c .before .before .before .before .before .if4 in
-    omega (arith, seat-few (a .session) (a .found) (limits-of .result) (limits-of .ensures) (pre .game) (pre .accepted) (blank 8) (pre .is) (a .seat .0) (if3 .left), move-few (a .session) (a .found) (limits-of .result) (limits-of .ensures) (pre .game) (pre .accepted) (blank 8) (pre .is) (a .seat .0) (a .choice .0) (if4 .left))
+    omega (arith, seat-few (a .session) fd (limits-of .result) (limits-of .ensures) (pre .game) (pre .accepted) (blank 8) (pre .is) (a .seat .0) (if3 .left), move-few (a .session) fd (limits-of .result) (limits-of .ensures) (pre .game) (pre .accepted) (blank 8) (pre .is) (a .seat .0) (a .choice .0) (if4 .left))
 
 returns-6 : tie.Need-returns-6
 returns-6 c =
     let a = c .before .before .before .before .before .before .before .before .before .before .before .before .before .before .before .before .before .args in
+    let fd = found (a .header) (a .kinds .now) (a .firsts .now) (a .seconds .now) (a .flags .now) in
     let limits-of = c .before .before .before .before .before .before .before .before .before .before .before .before .before .before .before .before .limits-of in
     let shaped = c .before .before .before .before .before .before .before .before .before .before .before .before .before .before .before .shaped in
     let if1 = c .before .before .before .before .before .before .before .before .before .before .before .before .before .before .if1 in
@@ -119,7 +128,7 @@ returns-6 c =
     let if4 = c .before .before .before .before .before .before .if4 in
     let if5 = c .before .before .before .if5 in
     let marks-in2 = c .before .before .marks-in2 in
-    λ G ok e. offer-illegal G (a .session) (a .seat .0) (a .choice .0) (well-shaped (a .session) (a .found) (limits-of .result) (limits-of .ensures) G ok (blank 8) e (shaped .result) (shaped .ensures) (if1 .left)) (goes-on (a .session) (a .found) (limits-of .result) (limits-of .ensures) G ok (blank 8) e (marks-in .result) (marks-in .ensures) (if2 .left)) (a-seat (a .session) (a .found) (limits-of .result) (limits-of .ensures) G ok (blank 8) e (a .seat .0) (if3 .left)) (a-move (a .session) (a .found) (limits-of .result) (limits-of .ensures) G ok (blank 8) e (a .seat .0) (a .choice .0) (if4 .left)) (not-chosen (a .session) (a .found) (limits-of .result) (limits-of .ensures) G ok (blank 8) e (a .seat .0) (if5 .left)) (is-illegal (a .session) (a .found) (limits-of .result) (limits-of .ensures) G ok (blank 8) e (a .seat .0) (a .choice .0) (marks-in2 .result) (marks-in2 .ensures) (if3 .left) (if4 .left) (c .if6 .taken))
+    λ G ok e. offer-illegal G (a .session) (a .seat .0) (a .choice .0) (well-shaped (a .session) fd (limits-of .result) (limits-of .ensures) G ok (blank 8) e (shaped .result) (shaped .ensures) (if1 .left)) (goes-on (a .session) fd (limits-of .result) (limits-of .ensures) G ok (blank 8) e (marks-in .result) (marks-in .ensures) (if2 .left)) (a-seat (a .session) fd (limits-of .result) (limits-of .ensures) G ok (blank 8) e (a .seat .0) (if3 .left)) (a-move (a .session) fd (limits-of .result) (limits-of .ensures) G ok (blank 8) e (a .seat .0) (a .choice .0) (if4 .left)) (not-chosen (a .session) fd (limits-of .result) (limits-of .ensures) G ok (blank 8) e (a .seat .0) (if5 .left)) (is-illegal (a .session) fd (limits-of .result) (limits-of .ensures) G ok (blank 8) e (a .seat .0) (a .choice .0) (marks-in2 .result) (marks-in2 .ensures) (if3 .left) (if4 .left) (c .if6 .taken))
 
 add-choices : tie.Need-add-choices
 add-choices c = search needs
@@ -130,14 +139,16 @@ mul-choices c = search needs
 array-write-choices : tie.Need-array-write-choices
 array-write-choices c =
     let a = c .before .before .before .before .before .before .before .before .before .before .before .before .before .before .before .before .before .before .args in
+    let fd = found (a .header) (a .kinds .now) (a .firsts .now) (a .seconds .now) (a .flags .now) in
     let pre = c .before .before .before .before .before .before .before .before .before .before .before .before .before .before .before .before .before .before .pre in
     let limits-of = c .before .before .before .before .before .before .before .before .before .before .before .before .before .before .before .before .before .limits-of in
     let if3 = c .before .before .before .before .before .before .before .before .before .before .if3 in
-    omega (arith, seat-few (a .session) (a .found) (limits-of .result) (limits-of .ensures) (pre .game) (pre .accepted) (blank 8) (pre .is) (a .seat .0) (if3 .left))
+    omega (arith, seat-few (a .session) fd (limits-of .result) (limits-of .ensures) (pre .game) (pre .accepted) (blank 8) (pre .is) (a .seat .0) (if3 .left))
 
 returns-7 : tie.Need-returns-7
 returns-7 c =
     let a = c .before .before .before .before .before .before .before .before .before .before .before .before .before .before .before .before .before .before .before .before .args in
+    let fd = found (a .header) (a .kinds .now) (a .firsts .now) (a .seconds .now) (a .flags .now) in
     let limits-of = c .before .before .before .before .before .before .before .before .before .before .before .before .before .before .before .before .before .before .before .limits-of in
     let shaped = c .before .before .before .before .before .before .before .before .before .before .before .before .before .before .before .before .before .before .shaped in
     let if1 = c .before .before .before .before .before .before .before .before .before .before .before .before .before .before .before .before .before .if1 in
@@ -148,7 +159,7 @@ returns-7 c =
     let if5 = c .before .before .before .before .before .before .if5 in
     let marks-in2 = c .before .before .before .before .before .marks-in2 in
     let if6 = c .before .before .before .if6 in
-    λ G ok e. offer-stored G (a .session) (a .seat .0) (a .choice .0) (well-shaped (a .session) (a .found) (limits-of .result) (limits-of .ensures) G ok (blank 8) e (shaped .result) (shaped .ensures) (if1 .left)) (goes-on (a .session) (a .found) (limits-of .result) (limits-of .ensures) G ok (blank 8) e (marks-in .result) (marks-in .ensures) (if2 .left)) (a-seat (a .session) (a .found) (limits-of .result) (limits-of .ensures) G ok (blank 8) e (a .seat .0) (if3 .left)) (a-move (a .session) (a .found) (limits-of .result) (limits-of .ensures) G ok (blank 8) e (a .seat .0) (a .choice .0) (if4 .left)) (not-chosen (a .session) (a .found) (limits-of .result) (limits-of .ensures) G ok (blank 8) e (a .seat .0) (if5 .left)) (is-legal (a .session) (a .found) (limits-of .result) (limits-of .ensures) G ok (blank 8) e (a .seat .0) (a .choice .0) (marks-in2 .result) (marks-in2 .ensures) (if3 .left) (if4 .left) (if6 .left))
+    λ G ok e. offer-stored G (a .session) (a .seat .0) (a .choice .0) (well-shaped (a .session) fd (limits-of .result) (limits-of .ensures) G ok (blank 8) e (shaped .result) (shaped .ensures) (if1 .left)) (goes-on (a .session) fd (limits-of .result) (limits-of .ensures) G ok (blank 8) e (marks-in .result) (marks-in .ensures) (if2 .left)) (a-seat (a .session) fd (limits-of .result) (limits-of .ensures) G ok (blank 8) e (a .seat .0) (if3 .left)) (a-move (a .session) fd (limits-of .result) (limits-of .ensures) G ok (blank 8) e (a .seat .0) (a .choice .0) (if4 .left)) (not-chosen (a .session) fd (limits-of .result) (limits-of .ensures) G ok (blank 8) e (a .seat .0) (if5 .left)) (is-legal (a .session) fd (limits-of .result) (limits-of .ensures) G ok (blank 8) e (a .seat .0) (a .choice .0) (marks-in2 .result) (marks-in2 .ensures) (if3 .left) (if4 .left) (if6 .left))
 
 pub offer-fit-spec : {M : Type 1} → statement M
 offer-fit-spec =

@@ -12,13 +12,13 @@ use Rattle.referee.proofs.plays.first_illegal.Statement.{statement}
 use Rattle.referee.proofs.plays.first_illegal.Tie as tie
 
 abbrev Inv-loop : tie.InvT-loop
-Inv-loop seats choices legal s₀ s = Searched (wrongs choices legal) seats s
+Inv-loop legal seats choices s₀ s = Searched (wrongs choices legal) seats s
 
 abbrev μ-loop : tie.MeasureT-loop
-μ-loop seats choices legal s₀ s = seats - s
+μ-loop legal seats choices s₀ s = seats - s
 
 loop-holds : tie.Need-loop-holds Inv-loop μ-loop
-loop-holds c = search-starts (wrongs (c .args .t1) (c .args .t2)) (c .args .seats)
+loop-holds c = search-starts (wrongs (c .args .t1) (c .args .legal .now)) (c .args .seats)
 
 cast-chosen : tie.Need-cast-chosen Inv-loop μ-loop
 cast-chosen c = search needs
@@ -56,18 +56,18 @@ add-if1 c =
     let loop = c .before .loop in
     omega (arith, pre .some (loop .s) (c .loop-test .taken), pre .within (loop .s) (c .loop-test .taken), pre .few)
 
-array-read-if1 : tie.Need-array-read-if1 Inv-loop μ-loop
-array-read-if1 c =
+element-copy-out-if1 : tie.Need-element-copy-out-if1 Inv-loop μ-loop
+element-copy-out-if1 c =
     let pre = c .before .before .pre in
     let loop = c .before .loop in
     omega (arith, pre .some (loop .s) (c .loop-test .taken), pre .within (loop .s) (c .loop-test .taken), pre .few)
 
 returns : tie.Need-returns Inv-loop μ-loop
 returns c =
-    let a = c .before .before .before .args in
-    let loop = c .before .before .loop in
-    let loop-test = c .before .loop-test in
-    search-stops (wrongs (a .t1) (a .t2)) (a .seats) (loop .s) (loop .inv) (loop-test .taken) (ap not (ne-eqb (getD (a .t2) (loop .s * 256 + (getD (a .t1) (loop .s) 0 - 1)) 0) 1 (c .if1 .taken)))
+    let a = c .before .before .before .before .args in
+    let loop = c .before .before .before .loop in
+    let loop-test = c .before .before .loop-test in
+    search-stops (wrongs (a .t1) (a .legal .now)) (a .seats) (loop .s) (loop .inv) (loop-test .taken) (ap not (ne-eqb (getD (a .legal .now) (loop .s * 256 + (getD (a .t1) (loop .s) 0 - 1)) 0) 1 (c .if1 .taken)))
 
 add-s : tie.Need-add-s Inv-loop μ-loop
 add-s c = search needs
@@ -77,16 +77,16 @@ loop-less c = search needs
 
 loop-again : tie.Need-loop-again Inv-loop μ-loop
 loop-again c =
-    let a = c .before .before .before .args in
-    let loop = c .before .before .loop in
-    let loop-test = c .before .loop-test in
-    search-goes-on (wrongs (a .t1) (a .t2)) (a .seats) (loop .s) (loop .inv) (loop-test .taken) (ap not (eq-eqb (getD (a .t2) (loop .s * 256 + (getD (a .t1) (loop .s) 0 - 1)) 0) 1 (c .if1 .left)))
+    let a = c .before .before .before .before .args in
+    let loop = c .before .before .before .loop in
+    let loop-test = c .before .before .loop-test in
+    search-goes-on (wrongs (a .t1) (a .legal .now)) (a .seats) (loop .s) (loop .inv) (loop-test .taken) (ap not (eq-eqb (getD (a .legal .now) (loop .s * 256 + (getD (a .t1) (loop .s) 0 - 1)) 0) 1 (c .if1 .left)))
 
 returns-2 : tie.Need-returns-2 Inv-loop μ-loop
 returns-2 c =
     let a = c .before .before .args in
     let loop = c .before .loop in
-    search-ends (wrongs (a .t1) (a .t2)) (a .seats) (loop .s) (loop .inv) (c .loop-test .left)
+    search-ends (wrongs (a .t1) (a .legal .now)) (a .seats) (loop .s) (loop .inv) (c .loop-test .left)
 
 pub first-illegal-spec : {M : Type 1} → statement M
 first-illegal-spec =
@@ -103,7 +103,7 @@ first-illegal-spec =
     mul-if1
     cast-if1-2
     add-if1
-    array-read-if1
+    element-copy-out-if1
     returns
     add-s
     loop-less

@@ -1,3 +1,4 @@
+-- The marks below i are copied.
 use Rattle.referee.proofs.Opening.{Copying, copyings}
 use Prim.Native.Nat.{_-_}
 use borrow.Author.Needs.{needs}
@@ -16,8 +17,8 @@ no-fluents-requires c κs = search needs
 loop-holds : tie.Need-loop-holds Inv-loop μ-loop
 loop-holds c = search (needs, copyings)
 
-array-read-position : tie.Need-array-read-position Inv-loop μ-loop
-array-read-position c = search needs
+element-copy-out-position : tie.Need-element-copy-out-position Inv-loop μ-loop
+element-copy-out-position c = search needs
 
 array-write-position : tie.Need-array-write-position Inv-loop μ-loop
 array-write-position c = search needs
@@ -42,7 +43,7 @@ first-marks-spec =
     μ-loop
     no-fluents-requires
     loop-holds
-    array-read-position
+    element-copy-out-position
     array-write-position
     add-i
     loop-less

@@ -7,6 +7,7 @@ use Rattle.referee.proofs.Offering.{misshapen, well-shaped, no-seat, a-
 use Rattle.calls.proofs.Returns.{message-bad-shape, message-no-seat, message-no-room}
 use Rattle.referee.proofs.Sending.{sheet-fits, round-fits, message-sent}
 use Rattle.gdl.specs.Flags.{blank}
+use Rattle.verdict.specs.Consulted.{found}
 use borrow.Author.Needs.{needs}
 use Rattle.referee.proofs.tells.message_fit.Statement.{statement}
 use Rattle.referee.proofs.tells.message_fit.Tie as tie
@@ -20,26 +21,29 @@ shaped-requires c κs = search needs
 returns : tie.Need-returns
 returns c =
     let a = c .before .before .before .before .args in
+    let fd = found (a .header) (a .kinds .now) (a .firsts .now) (a .seconds .now) (a .flags .now) in
     let limits-of = c .before .before .limits-of in
     let shaped = c .before .shaped in
-    λ G ok e. message-bad-shape G (a .session) (a .seat .0) (a .room .now) (misshapen (a .session) (a .found) (limits-of .result) (limits-of .ensures) G ok (blank 8) e (shaped .result) (shaped .ensures) (c .if1 .taken))
+    λ G ok e. message-bad-shape G (a .session) (a .seat .0) (a .room .now) (misshapen (a .session) fd (limits-of .result) (limits-of .ensures) G ok (blank 8) e (shaped .result) (shaped .ensures) (c .if1 .taken))
 
 returns-2 : tie.Need-returns-2
 returns-2 c =
     let a = c .before .before .before .before .before .before .before .args in
+    let fd = found (a .header) (a .kinds .now) (a .firsts .now) (a .seconds .now) (a .flags .now) in
     let limits-of = c .before .before .before .before .before .limits-of in
     let shaped = c .before .before .before .before .shaped in
     let if1 = c .before .before .before .if1 in
-    λ G ok e. message-no-seat G (a .session) (a .seat .0) (a .room .now) (well-shaped (a .session) (a .found) (limits-of .result) (limits-of .ensures) G ok (blank 8) e (shaped .result) (shaped .ensures) (if1 .left)) (no-seat (a .session) (a .found) (limits-of .result) (limits-of .ensures) G ok (blank 8) e (a .seat .0) (c .if2 .taken))
+    λ G ok e. message-no-seat G (a .session) (a .seat .0) (a .room .now) (well-shaped (a .session) fd (limits-of .result) (limits-of .ensures) G ok (blank 8) e (shaped .result) (shaped .ensures) (if1 .left)) (no-seat (a .session) fd (limits-of .result) (limits-of .ensures) G ok (blank 8) e (a .seat .0) (c .if2 .taken))
 
 returns-3 : tie.Need-returns-3
 returns-3 c =
     let a = c .before .before .before .before .before .before .before .before .args in
+    let fd = found (a .header) (a .kinds .now) (a .firsts .now) (a .seconds .now) (a .flags .now) in
     let limits-of = c .before .before .before .before .before .before .limits-of in
     let shaped = c .before .before .before .before .before .shaped in
     let if1 = c .before .before .before .before .if1 in
     let if2 = c .before .if2 in
-    λ G ok e. message-no-room G (a .session) (a .seat .0) (a .room .now) (well-shaped (a .session) (a .found) (limits-of .result) (limits-of .ensures) G ok (blank 8) e (shaped .result) (shaped .ensures) (if1 .left)) (a-seat (a .session) (a .found) (limits-of .result) (limits-of .ensures) G ok (blank 8) e (a .seat .0) (if2 .left)) (lt-ltb (length (a .room .now)) 1024 (c .if3 .taken))
+    λ G ok e. message-no-room G (a .session) (a .seat .0) (a .room .now) (well-shaped (a .session) fd (limits-of .result) (limits-of .ensures) G ok (blank 8) e (shaped .result) (shaped .ensures) (if1 .left)) (a-seat (a .session) fd (limits-of .result) (limits-of .ensures) G ok (blank 8) e (a .seat .0) (if2 .left)) (lt-ltb (length (a .room .now)) 1024 (c .if3 .taken))
 
 marks-in-requires : tie.Need-marks-in-requires
 marks-in-requires c κs =
@@ -56,25 +60,27 @@ marks-in-requires-3 c κs =
     let pre = c .before .before .before .before .before .before .before .before .before .before .pre in
     (fit-of pre, search needs)
 
-cast-t19 : tie.Need-cast-t19
-cast-t19 c =
+cast-t23 : tie.Need-cast-t23
+cast-t23 c =
     let a = c .before .before .before .before .before .before .before .before .before .before .before .before .before .args in
+    let fd = found (a .header) (a .kinds .now) (a .firsts .now) (a .seconds .now) (a .flags .now) in
     let pre = c .before .before .before .before .before .before .before .before .before .before .before .before .before .pre in
     let limits-of = c .before .before .before .before .before .before .before .before .before .before .before .limits-of in
     let shaped = c .before .before .before .before .before .before .before .before .before .before .shaped in
     let if1 = c .before .before .before .before .before .before .before .before .before .if1 in
-    omega (arith, round-fits (pre .game) (a .session) (well-shaped (a .session) (a .found) (limits-of .result) (limits-of .ensures) (pre .game) (pre .accepted) (blank 8) (pre .is) (shaped .result) (shaped .ensures) (if1 .left)))
+    omega (arith, round-fits (pre .game) (a .session) (well-shaped (a .session) fd (limits-of .result) (limits-of .ensures) (pre .game) (pre .accepted) (blank 8) (pre .is) (shaped .result) (shaped .ensures) (if1 .left)))
 
-array-read-t22 : tie.Need-array-read-t22
-array-read-t22 c = search needs
+array-read-t26 : tie.Need-array-read-t26
+array-read-t26 c = search needs
 
 write-message-requires : tie.Need-write-message-requires
 write-message-requires c κs =
     let a = c .before .before .before .before .before .before .before .before .before .before .before .before .before .before .before .before .before .args in
+    let fd = found (a .header) (a .kinds .now) (a .firsts .now) (a .seconds .now) (a .flags .now) in
     let pre = c .before .before .before .before .before .before .before .before .before .before .before .before .before .before .before .before .before .pre in
     let limits-of = c .before .before .before .before .before .before .before .before .before .before .before .before .before .before .before .limits-of in
     let if2 = c .before .before .before .before .before .before .before .before .before .before .if2 in
-    sheet-fits (a .session) (a .found) (limits-of .result) (limits-of .ensures) (pre .game) (pre .accepted) (pre .is) (a .seat .0) _ refl refl refl (if2 .left)
+    sheet-fits (a .session) fd (limits-of .result) (limits-of .ensures) (pre .game) (pre .accepted) (pre .is) (a .seat .0) _ refl refl refl (if2 .left)
 
 same-length : tie.Need-same-length
 same-length c = search needs
@@ -82,6 +88,7 @@ same-length c = search needs
 returns-4 : tie.Need-returns-4
 returns-4 c =
     let a = c .before .before .before .before .before .before .before .before .before .before .before .before .before .before .before .before .before .before .before .before .args in
+    let fd = found (a .header) (a .kinds .now) (a .firsts .now) (a .seconds .now) (a .flags .now) in
     let limits-of = c .before .before .before .before .before .before .before .before .before .before .before .before .before .before .before .before .before .before .limits-of in
     let shaped = c .before .before .before .before .before .before .before .before .before .before .before .before .before .before .before .before .before .shaped in
     let if1 = c .before .before .before .before .before .before .before .before .before .before .before .before .before .before .before .before .if1 in
@@ -91,7 +98,7 @@ returns-4 c =
     let marks-in2 = c .before .before .before .before .before .before .before .before .before .before .marks-in2 in
     let marks-in3 = c .before .before .before .before .before .before .before .before .before .marks-in3 in
     let write-message = c .before .before .write-message in
-    λ G ok e. message-sent (a .session) (a .found) (limits-of .result) (limits-of .ensures) G ok e (a .seat .0) (if2 .left) (marks-in .result) (marks-in2 .result) (marks-in3 .result) (marks-in .ensures) (marks-in2 .ensures) (marks-in3 .ensures) (a .room .now) _ _ (well-shaped (a .session) (a .found) (limits-of .result) (limits-of .ensures) G ok (blank 8) e (shaped .result) (shaped .ensures) (if1 .left)) (a-seat (a .session) (a .found) (limits-of .result) (limits-of .ensures) G ok (blank 8) e (a .seat .0) (if2 .left)) (if3 .left) (write-message .ensures)
+    λ G ok e. message-sent (a .session) fd (limits-of .result) (limits-of .ensures) G ok e (a .seat .0) (if2 .left) (marks-in .result) (marks-in2 .result) (marks-in3 .result) (marks-in .ensures) (marks-in2 .ensures) (marks-in3 .ensures) (a .room .now) _ _ (well-shaped (a .session) fd (limits-of .result) (limits-of .ensures) G ok (blank 8) e (shaped .result) (shaped .ensures) (if1 .left)) (a-seat (a .session) fd (limits-of .result) (limits-of .ensures) G ok (blank 8) e (a .seat .0) (if2 .left)) (if3 .left) (write-message .ensures)
 
 pub message-fit-spec : {M : Type 1} → statement M
 message-fit-spec =
@@ -105,8 +112,8 @@ message-fit-spec =
     marks-in-requires
     marks-in-requires-2
     marks-in-requires-3
-    cast-t19
-    array-read-t22
+    cast-t23
+    array-read-t26
     write-message-requires
     same-length
     returns-4)

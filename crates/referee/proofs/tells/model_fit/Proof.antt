@@ -1,5 +1,6 @@
 use native.Mathlib.Omega.{arith}
-use Rattle.referee.proofs.Telling.{position-out, choices-out, room-out, flags-long, model-copied, flags-1024}
+use Rattle.referee.proofs.Telling.{position-out, choices-out, room-out, flags-long, model-copied}
+use Rattle.verdict.specs.Consulted.{found}
 use borrow.Author.Needs.{needs}
 use Rattle.referee.proofs.tells.model_fit.Statement.{statement}
 use Rattle.referee.proofs.tells.model_fit.Tie as tie
@@ -16,9 +17,10 @@ position-fits-requires c κs = search needs
 returns : tie.Need-returns
 returns c =
     let a = c .before .before .before .before .before .args in
+    let fd = found (a .header) (a .kinds .now) (a .firsts .now) (a .seconds .now) (a .flags .now) in
     let limits-of = c .before .before .before .limits-of in
     let position-fits = c .before .position-fits in
-    λ G ok e. position-out (a .found) (limits-of .result) (limits-of .ensures) (a .t2) (a .t3) (a .room .now) G ok e (position-fits .result) (position-fits .ensures) (c .if1 .taken)
+    λ G ok e. position-out fd (limits-of .result) (limits-of .ensures) (a .t6) (a .t7) (a .room .now) G ok e (position-fits .result) (position-fits .ensures) (c .if1 .taken)
 
 slice-aggregate-choices-fit : tie.Need-slice-aggregate-choices-fit
 slice-aggregate-choices-fit c = search needs
@@ -29,11 +31,12 @@ choices-fit-requires c κs = search needs
 returns-2 : tie.Need-returns-2
 returns-2 c =
     let a = c .before .before .before .before .before .before .before .before .args in
+    let fd = found (a .header) (a .kinds .now) (a .firsts .now) (a .seconds .now) (a .flags .now) in
     let limits-of = c .before .before .before .before .before .before .limits-of in
     let position-fits = c .before .before .before .before .position-fits in
     let if1 = c .before .before .before .if1 in
     let choices-fit = c .before .choices-fit in
-    λ G ok e. choices-out (a .found) (limits-of .result) (limits-of .ensures) (a .t2) (a .t3) (a .room .now) G ok e (position-fits .result) (position-fits .ensures) (if1 .left) (choices-fit .result) (choices-fit .ensures) (c .if2 .taken)
+    λ G ok e. choices-out fd (limits-of .result) (limits-of .ensures) (a .t6) (a .t7) (a .room .now) G ok e (position-fits .result) (position-fits .ensures) (if1 .left) (choices-fit .result) (choices-fit .ensures) (c .if2 .taken)
 
 cast-atoms : tie.Need-cast-atoms
 cast-atoms c = search needs
@@ -41,44 +44,42 @@ cast-atoms c = search needs
 returns-3 : tie.Need-returns-3
 returns-3 c =
     let a = c .before .before .before .before .before .before .before .before .before .before .args in
+    let fd = found (a .header) (a .kinds .now) (a .firsts .now) (a .seconds .now) (a .flags .now) in
     let limits-of = c .before .before .before .before .before .before .before .before .limits-of in
     let position-fits = c .before .before .before .before .before .before .position-fits in
     let if1 = c .before .before .before .before .before .if1 in
     let choices-fit = c .before .before .before .choices-fit in
     let if2 = c .before .before .if2 in
-    λ G ok e. room-out (a .found) (limits-of .result) (limits-of .ensures) (a .t2) (a .t3) (a .room .now) G ok e (position-fits .result) (position-fits .ensures) (if1 .left) (choices-fit .result) (choices-fit .ensures) (if2 .left) (c .if3 .taken)
-
-slice-aggregate-copy-flags : tie.Need-slice-aggregate-copy-flags
-slice-aggregate-copy-flags c =
-    let pre = c .before .before .before .before .before .before .before .before .before .before .before .before .pre in
-    omega (arith, flags-1024 pre)
+    λ G ok e. room-out fd (limits-of .result) (limits-of .ensures) (a .t6) (a .t7) (a .room .now) G ok e (position-fits .result) (position-fits .ensures) (if1 .left) (choices-fit .result) (choices-fit .ensures) (if2 .left) (c .if3 .taken)
 
 copy-flags-requires : tie.Need-copy-flags-requires
 copy-flags-requires c κs =
-    let a = c .before .before .before .before .before .before .before .before .before .before .before .before .before .args in
-    let pre = c .before .before .before .before .before .before .before .before .before .before .before .before .before .pre in
-    let limits-of = c .before .before .before .before .before .before .before .before .before .before .before .limits-of in
-    let position-fits = c .before .before .before .before .before .before .before .before .before .position-fits in
-    let if1 = c .before .before .before .before .before .before .before .before .if1 in
-    let choices-fit = c .before .before .before .before .before .before .choices-fit in
-    let if2 = c .before .before .before .before .before .if2 in
-    let if3 = c .before .before .before .if3 in
-    (flags-long (a .found) (limits-of .result) (limits-of .ensures) (a .t2) (a .t3) (a .room .now) (pre .game) (pre .accepted) (pre .is) (position-fits .result) (position-fits .ensures) (if1 .left) (choices-fit .result) (choices-fit .ensures) (if2 .left), if3 .left)
+    let a = c .before .before .before .before .before .before .before .before .before .before .before .before .args in
+    let fd = found (a .header) (a .kinds .now) (a .firsts .now) (a .seconds .now) (a .flags .now) in
+    let pre = c .before .before .before .before .before .before .before .before .before .before .before .before .pre in
+    let limits-of = c .before .before .before .before .before .before .before .before .before .before .limits-of in
+    let position-fits = c .before .before .before .before .before .before .before .before .position-fits in
+    let if1 = c .before .before .before .before .before .before .before .if1 in
+    let choices-fit = c .before .before .before .before .before .choices-fit in
+    let if2 = c .before .before .before .before .if2 in
+    let if3 = c .before .before .if3 in
+    (flags-long fd (limits-of .result) (limits-of .ensures) (a .t6) (a .t7) (a .room .now) (pre .game) (pre .accepted) (pre .is) (position-fits .result) (position-fits .ensures) (if1 .left) (choices-fit .result) (choices-fit .ensures) (if2 .left), if3 .left)
 
 same-length : tie.Need-same-length
 same-length c = search needs
 
 returns-4 : tie.Need-returns-4
 returns-4 c =
-    let a = c .before .before .before .before .before .before .before .before .before .before .before .before .before .before .before .before .args in
-    let limits-of = c .before .before .before .before .before .before .before .before .before .before .before .before .before .before .limits-of in
-    let position-fits = c .before .before .before .before .before .before .before .before .before .before .before .before .position-fits in
-    let if1 = c .before .before .before .before .before .before .before .before .before .before .before .if1 in
-    let choices-fit = c .before .before .before .before .before .before .before .before .before .choices-fit in
-    let if2 = c .before .before .before .before .before .before .before .before .if2 in
-    let if3 = c .before .before .before .before .before .before .if3 in
+    let a = c .before .before .before .before .before .before .before .before .before .before .before .before .before .before .before .args in
+    let fd = found (a .header) (a .kinds .now) (a .firsts .now) (a .seconds .now) (a .flags .now) in
+    let limits-of = c .before .before .before .before .before .before .before .before .before .before .before .before .before .limits-of in
+    let position-fits = c .before .before .before .before .before .before .before .before .before .before .before .position-fits in
+    let if1 = c .before .before .before .before .before .before .before .before .before .before .if1 in
+    let choices-fit = c .before .before .before .before .before .before .before .before .choices-fit in
+    let if2 = c .before .before .before .before .before .before .before .if2 in
+    let if3 = c .before .before .before .before .before .if3 in
     let copy-flags = c .before .before .copy-flags in
-    λ G ok e. model-copied (a .found) (limits-of .result) (limits-of .ensures) (a .t2) (a .t3) (a .room .now) G ok e (position-fits .result) (position-fits .ensures) (if1 .left) (choices-fit .result) (choices-fit .ensures) (if2 .left) (if3 .left) _ (copy-flags .ensures)
+    λ G ok e. model-copied fd (limits-of .result) (limits-of .ensures) (a .t6) (a .t7) (a .room .now) G ok e (position-fits .result) (position-fits .ensures) (if1 .left) (choices-fit .result) (choices-fit .ensures) (if2 .left) (if3 .left) _ (copy-flags .ensures)
 
 pub model-fit-spec : {M : Type 1} → statement M
 model-fit-spec =
@@ -93,7 +94,6 @@ model-fit-spec =
     returns-2
     cast-atoms
     returns-3
-    slice-aggregate-copy-flags
     copy-flags-requires
     same-length
     returns-4)

@@ -1,12 +1,9 @@
-use Rattle.table.proofs.Whole.{table-laws}
+-- Each return is one law: too long, no header, no game, or the whole table.
+use Rattle.table.proofs.Whole.{table-laws, all-table}
 use Rattle.table.proofs.Values.{few-atoms}
 use borrow.Author.Needs.{needs}
 use Rattle.table.proofs.tables.read_table.Statement.{statement}
 use Rattle.table.proofs.tables.read_table.Tie as tie
-use Rattle.table.proofs.tables.read_table.Reads as reads
-
-refused-requires : tie.Need-refused-requires
-refused-requires c κs = search needs
 
 returns : tie.Need-returns
 returns c = search (needs, table-laws)
@@ -17,14 +14,17 @@ read-header-requires c κs = search needs
 enum-known-f : tie.Need-enum-known-f
 enum-known-f c = search needs
 
-refused-requires-2 : tie.Need-refused-requires-2
-refused-requires-2 c κs = search needs
-
 enum-known-header : tie.Need-enum-known-header
 enum-known-header c = search needs
 
-read-after-requires : tie.Need-read-after-requires
-read-after-requires c κs = search (needs, few-atoms)
+read-game-requires : tie.Need-read-game-requires
+read-game-requires c κs = search (needs, few-atoms)
+
+enum-known-f-2 : tie.Need-enum-known-f-2
+enum-known-f-2 c = search needs
+
+enum-known-many : tie.Need-enum-known-many
+enum-known-many c = search needs
 
 returns-2 : tie.Need-returns-2
 returns-2 c = search (needs, table-laws)
@@ -32,16 +32,26 @@ returns-2 c = search (needs, table-laws)
 returns-3 : tie.Need-returns-3
 returns-3 c = search (needs, table-laws)
 
+returns-4 : tie.Need-returns-4
+returns-4 c =
+    let if1 = c .before .before .before .before .before .before .before .before .before .before .before .before .before .before .before .if1 in
+    let read-header = c .before .before .before .before .before .before .before .before .before .before .before .before .before .before .read-header in
+    let header = c .before .before .before .before .before .before .before .before .before .before .before .before .header in
+    let read-game = c .before .before .before .read-game in
+    let many = c .before .many in
+    all-table _ _ _ _ _ _ _ _ _ _ _ _ _ _ _ (if1 .left) _ (read-header .ensures) _ _ (header .given .1) _ (read-game .ensures) _ (many .given .1)
+
 pub read-table-spec : {M : Type 1} → statement M
 read-table-spec =
     tie.close
     (tie.spec
-    refused-requires
     returns
     read-header-requires
     enum-known-f
-    refused-requires-2
     enum-known-header
-    read-after-requires
+    read-game-requires
+    enum-known-f-2
+    enum-known-many
     returns-2
-    returns-3)
+    returns-3
+    returns-4)
