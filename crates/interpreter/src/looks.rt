@@ -102,9 +102,13 @@ fn flags_in(lent: &[u8]) -> usize {
 }
 
 // "NUMBER PLACE HEX": the first A flags. Before the call the lent room holds no flag.
-fn put_model(table: &[u8], session: Session, lent: &mut [u8], room: &mut [u8]) -> usize {
-    let position = session.position;
-    let choices = session.choices;
+fn put_model(
+    table: &[u8],
+    position: [u8; 512],
+    choices: [u16; 8],
+    lent: &mut [u8],
+    room: &mut [u8],
+) -> usize {
     let refusal = asking::model(table, position, choices, lent);
     let at = put_refusal(room, refusal);
     let many = flags_in(lent);
@@ -119,9 +123,16 @@ fn model(line: &[u8], table: &[u8], room: &mut [u8]) -> usize {
     let Fault::Nothing = fault else {
         return put_fault(room, fault);
     };
-    let session = placed.session;
+    let position = placed.position;
+    let choices = placed.choices;
     let mut lent = [255u8; 65535];
-    put_model(table, session, &mut lent[0..value_of(many) as usize], room)
+    put_model(
+        table,
+        position,
+        choices,
+        &mut lent[0..value_of(many) as usize],
+        room,
+    )
 }
 
 pub fn look(
