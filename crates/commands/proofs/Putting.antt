@@ -1,6 +1,6 @@
 -- Laws of texts put one after another.
 use Prim.Native.Nat.{ℕ}
-use mathlib.Core.Path.{_≡_, refl, sym, ap, _∙_}
+use mathlib.Core.Path.{_≡_, ap, _∙_}
 use mathlib.Core.List.{List, [], _∷_}
 use Rattle.numbers.specs.Writing.{writtenAt}
 use Rattle.refusals.specs.Refusal.{numberOf, placeOf}
@@ -9,7 +9,7 @@ use Rattle.session.specs.Bytes.{sessionBytes}
 use Rattle.session.specs.declared.Session.{Session}
 use Rattle.lines.specs.Decimal.{decimalText}
 use Rattle.lines.specs.Hex.{hexText}
-use Rattle.commands.specs.Texts.{text, puts}
+use Rattle.commands.specs.Texts.{puts}
 use Rattle.commands.specs.Faults.{what}
 use Rattle.commands.specs.Replies.{refusalTexts, moreTexts, recordTexts}
 use Rattle.commands.specs.declared.fault.Fault.{Fault}
