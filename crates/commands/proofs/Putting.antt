@@ -1,7 +1,7 @@
 -- Laws of texts put one after another.
 use Prim.Native.Nat.{ℕ}
 use mathlib.Core.Path.{_≡_, ap, _∙_}
-use mathlib.Core.List.{List, [], _∷_}
+use mathlib.Core.List.{List, [], _∷_, _++_}
 use Rattle.numbers.specs.Writing.{writtenAt}
 use Rattle.refusals.specs.Refusal.{numberOf, placeOf}
 use Rattle.refusals.specs.declared.Refusal.{Refusal}
@@ -27,6 +27,12 @@ module _ (t : List ℕ) (at : ℕ) (room : List ℕ) (x : ℕ × List ℕ) where
     pub put-two : (u : List ℕ) → x ≡ writtenAt u a now → x ≡ puts (t ∷ u ∷ []) (at, room)
     unfolding puts
     put-two u f = put-then (u ∷ []) f
+
+-- texts behind texts
+pub puts-behind : (ts us : List (List ℕ)) (p q x : ℕ × List ℕ) → q ≡ puts ts p → x ≡ puts us q → x ≡ puts (ts ++ us) p
+unfolding puts
+puts-behind [] us p q x e f = rw (← e) f
+puts-behind (t ∷ ts) us p q x e f = puts-behind ts us (writtenAt t (p .0) (p .1)) q x e f
 
 pub put-what : (f g : Fault) (at : ℕ) (room : List ℕ) (x : ℕ × List ℕ) → f ≡ g → x ≡ writtenAt (what g) at room → x ≡ writtenAt (what f) at room
 put-what f g at room x e h = rw e h

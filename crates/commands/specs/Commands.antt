@@ -1,5 +1,6 @@
 -- Which command a line is: the protocol's table of commands, by the first word of a line and the number of its words.
 use Prim.Native.Nat.{ℕ}
+use mathlib.Core.Bool.{Bool, true, false}
 use mathlib.Core.List.{List, [], _∷_}
 use Rattle.numbers.specs.If.{if_then_else_}
 use Rattle.commands.specs.Texts.{text, same}
@@ -72,3 +73,19 @@ most Model = 3
 most Record = 1
 most Help = 0
 most Unknown = 0
+
+-- "anything else"
+abbrev pub isUnknown : Command → Bool
+isUnknown Table = false
+isUnknown Load = false
+isUnknown Check = false
+isUnknown Claim = false
+isUnknown Open = false
+isUnknown Offer = false
+isUnknown Play = false
+isUnknown Message = false
+isUnknown Hidden = false
+isUnknown Model = false
+isUnknown Record = false
+isUnknown Help = false
+isUnknown Unknown = true

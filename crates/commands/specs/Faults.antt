@@ -1,9 +1,25 @@
 -- What is wrong with a line, and the answer that says so: "error WHAT, and nothing changes".
 use Prim.Native.Nat.{ℕ}
+use mathlib.Core.Bool.{Bool, true, false}
 use mathlib.Core.List.{List, [], _∷_}
 use Rattle.commands.specs.Texts.{text}
 use Rattle.commands.specs.declared.fault.Fault.{Fault}
 use Rattle.commands.specs.declared.fault.Fault.the-variants.{Nothing, Blanks, Command, Words, NotDecimal, TooLarge, NotHex, ModelBytes, RecordBytes, TableBytes, NoFile, LongLine}
+
+-- "error WHAT, and nothing changes" where there is one
+abbrev pub isNothing : Fault → Bool
+isNothing Nothing = true
+isNothing Blanks = false
+isNothing Command = false
+isNothing Words = false
+isNothing NotDecimal = false
+isNothing TooLarge = false
+isNothing NotHex = false
+isNothing ModelBytes = false
+isNothing RecordBytes = false
+isNothing TableBytes = false
+isNothing NoFile = false
+isNothing LongLine = false
 
 -- the first of two faults
 abbrev pub firstOf : Fault → Fault → Fault

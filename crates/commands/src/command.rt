@@ -1,7 +1,7 @@
 // Which command a line is, by its first word and the number of its words.
 ghost use mathlib.Core.Path.{_≡_};
 ghost use Rattle.commands.specs.Texts.{same};
-ghost use Rattle.commands.specs.Commands.{otherCommandOf, commandOf, fewest, most};
+ghost use Rattle.commands.specs.Commands.{otherCommandOf, commandOf, isUnknown, fewest, most};
 
 pub enum Command {
     Table,
@@ -72,6 +72,26 @@ pub fn command_of(word: &[u8]) -> Command
         return Command::Offer;
     }
     other_command_of(word)
+}
+
+pub fn is_unknown(command: Command) -> bool
+    ensures { λ r. ⌜ r ≡ isUnknown command ⌝ }
+{
+    match command {
+        Command::Table => false,
+        Command::Load => false,
+        Command::Check => false,
+        Command::Claim => false,
+        Command::Open => false,
+        Command::Offer => false,
+        Command::Play => false,
+        Command::Message => false,
+        Command::Hidden => false,
+        Command::Model => false,
+        Command::Record => false,
+        Command::Help => false,
+        Command::Unknown => true,
+    }
 }
 
 // The fewest words that a command has behind its name.

@@ -3,7 +3,7 @@ use lines::text::put_text;
 ghost use mathlib.Core.Path.{_≡_};
 ghost use Rattle.numbers.specs.Writing.{writtenAt};
 ghost use Rattle.commands.specs.Texts.{puts};
-ghost use Rattle.commands.specs.Faults.{firstOf, what, errorTexts};
+ghost use Rattle.commands.specs.Faults.{isNothing, firstOf, what, errorTexts};
 
 pub enum Fault {
     Nothing,
@@ -18,6 +18,25 @@ pub enum Fault {
     TableBytes,
     NoFile,
     LongLine,
+}
+
+pub fn is_nothing(fault: Fault) -> bool
+    ensures { λ r. ⌜ r ≡ isNothing fault ⌝ }
+{
+    match fault {
+        Fault::Nothing => true,
+        Fault::Blanks => false,
+        Fault::Command => false,
+        Fault::Words => false,
+        Fault::NotDecimal => false,
+        Fault::TooLarge => false,
+        Fault::NotHex => false,
+        Fault::ModelBytes => false,
+        Fault::RecordBytes => false,
+        Fault::TableBytes => false,
+        Fault::NoFile => false,
+        Fault::LongLine => false,
+    }
 }
 
 // The first of two faults.
