@@ -1,1 +1,2 @@
 pub mod Feed
+pub mod File

@@ -3,10 +3,11 @@ pub mod file; // a file read whole
 mod reading; // one read from a descriptor
 
 use reading::read_more;
-ghost use Prim.Native.Nat.{ℕ, _-_, _≤_};
+ghost use Prim.Native.Nat.{ℕ, _+_, _-_, _≤_};
 ghost use mathlib.Core.Path.{_≡_};
 ghost use lib.ListN.{length};
-ghost use Rattle.feed.specs.Feed.{Held};
+ghost use lib.Seq.{sets, slice};
+ghost use Rattle.feed.specs.Feed.{Held, untilEnd, told, toldLast, newFeed, behind};
 
 pub enum Found {
     Line,
@@ -26,6 +27,7 @@ pub struct Feed {
 }
 
 pub fn new_feed() -> Feed
+    ensures { λ r. ⌜ r ≡ newFeed ⌝ }
     ensures { λ r. ⌜ Held 0 r ⌝ }
 {
     Feed {
@@ -40,6 +42,7 @@ pub fn new_feed() -> Feed
 // The place of the first line end, or `have` where there is none.
 fn line_end(room: &[u8], from: usize, have: usize) -> usize
     requires { ⌜ (from ≤ have) × (have ≤ length (now room)) ⌝ }
+    ensures { λ r. ⌜ r ≡ from + untilEnd (slice from have (now (room .entry))) ⌝ }
     ensures { λ r. ⌜ (from ≤ r) × (r ≤ have) ⌝ }
 {
     let mut i = from;
@@ -56,6 +59,7 @@ fn line_end(room: &[u8], from: usize, have: usize) -> usize
 fn to_front(room: &mut [u8], start: usize, have: usize) -> usize
     requires { ⌜ (start ≤ have) × (have ≤ length (now room)) ⌝ }
     ensures { λ r. ⌜ r ≡ have - start ⌝ }
+    ensures { λ _. ⌜ now (room .exit) ≡ sets (now (room .entry)) 0 (slice start have (now (room .entry))) ⌝ }
 {
     let mut i: usize = 0;
     while i < have - start {
@@ -66,7 +70,9 @@ fn to_front(room: &mut [u8], start: usize, have: usize) -> usize
 }
 
 // What a line is that has ended.
-fn told(long: bool) -> Found {
+fn told(long: bool) -> Found
+    ensures { λ r. ⌜ r ≡ told long ⌝ }
+{
     if long {
         return Found::Long;
     }
@@ -74,7 +80,9 @@ fn told(long: bool) -> Found {
 }
 
 // What is left when the input has ended: a line without its end, or nothing.
-fn told_last(left: usize, long: bool) -> Found {
+fn told_last(left: usize, long: bool) -> Found
+    ensures { λ r. ⌜ r ≡ toldLast left long ⌝ }
+{
     if long {
         return Found::Long;
     }
@@ -131,6 +139,7 @@ fn step(fd: i32, room: &mut [u8], feed: Feed) -> Feed
 
 // Where the next line begins: behind the end of the one that was found.
 fn behind(feed: Feed) -> Feed
+    ensures { λ r. ⌜ r ≡ behind feed ⌝ }
     ensures { λ r. ⌜ ((n : ℕ) → Held n feed → Held n r) ⌝ }
 {
     if feed.end < feed.have {

@@ -1,16 +1,19 @@
 // What is current, and the answer to a line.
-use crate::looks::look;
+use crate::looks;
+use crate::records;
 use crate::records::Turned;
-use crate::records::turn;
 use crate::tables::Taken;
 use crate::tables::load_table;
 use crate::tables::set_table;
 use commands::command::Command;
 use commands::command::command_of;
 use commands::command::fewest;
+use commands::command::is_unknown;
 use commands::command::most;
 use commands::fault::Fault;
+use commands::fault::is_nothing;
 use commands::fault::put_fault;
+use commands::reply::put_help;
 use feed::Feed;
 use feed::Found;
 use lines::words::count_words;
@@ -18,8 +21,11 @@ use lines::words::well_spaced;
 use lines::words::word;
 use session::Session;
 use session::bytes::blank_session;
-ghost use lib.ListN.{length};
+ghost use mathlib.Core.Path.{_≡_};
+ghost use Prim.Native.Nat.{_-_};
+ghost use lib.ListN.{length, take, drop};
 ghost use Rattle.feed.specs.Feed.{Held};
+ghost use Rattle.interpreter.specs.Desk.{newDesk, faultIn, withLength, withTable, withRecord, Meant, LineMeant, FoundMeant, Answers};
 
 // How much of the table's room is the current table, and the current record.
 pub struct Desk {
@@ -34,7 +40,9 @@ pub struct Answered {
 }
 
 // At first the table is empty and the record blank.
-pub fn new_desk() -> Desk {
+pub fn new_desk() -> Desk
+    ensures { λ r. ⌜ r ≡ newDesk ⌝ }
+{
     Desk {
         table: 0,
         session: blank_session(),
@@ -42,12 +50,16 @@ pub fn new_desk() -> Desk {
 }
 
 // An answer that changes nothing.
-fn said(desk: Desk, length: usize) -> Answered {
+fn said(desk: Desk, length: usize) -> Answered
+    ensures { λ r. ⌜ r ≡ withLength desk length ⌝ }
+{
     Answered { desk, length }
 }
 
 // An answer with the table that is now current.
-fn taken(desk: Desk, taken: Taken) -> Answered {
+fn taken(desk: Desk, taken: Taken) -> Answered
+    ensures { λ r. ⌜ r ≡ withTable desk taken ⌝ }
+{
     let session = desk.session;
     Answered {
         desk: Desk {
@@ -59,7 +71,9 @@ fn taken(desk: Desk, taken: Taken) -> Answered {
 }
 
 // An answer with the record that is now current.
-fn turned(desk: Desk, turned: Turned) -> Answered {
+fn turned(desk: Desk, turned: Turned) -> Answered
+    ensures { λ r. ⌜ r ≡ withRecord desk turned ⌝ }
+{
     let session = turned.session;
     Answered {
         desk: Desk {
@@ -71,7 +85,9 @@ fn turned(desk: Desk, turned: Turned) -> Answered {
 }
 
 // The table within its room.
-fn table_in(room: &[u8], length: usize) -> &[u8] {
+fn table_in(room: &[u8], length: usize) -> &[u8]
+    ensures { λ r. ⌜ now r ≡ take length (now (room .entry)) ⌝ }
+{
     if length <= room.len() {
         return &room[0..length];
     }
@@ -79,11 +95,13 @@ fn table_in(room: &[u8], length: usize) -> &[u8] {
 }
 
 // What is wrong with a line's blanks, its first word and the number of its words.
-fn fault_in(line: &[u8], command: Command) -> Fault {
+fn fault_in(line: &[u8], command: Command) -> Fault
+    ensures { λ r. ⌜ r ≡ faultIn (now (line .entry)) command ⌝ }
+{
     if !well_spaced(line) {
         return Fault::Blanks;
     }
-    if let Command::Unknown = command {
+    if is_unknown(command) {
         return Fault::Command;
     }
     let words = count_words(line);
@@ -96,30 +114,51 @@ fn fault_in(line: &[u8], command: Command) -> Fault {
     Fault::Nothing
 }
 
-// The answer to a line that leaves the table as it is.
-fn answer_on(line: &[u8], command: Command, table: &[u8], desk: Desk, room: &mut [u8]) -> Answered {
+// The answer to a command whose words are as many as they are to be.
+fn answer_command(
+    line: &[u8],
+    command: Command,
+    table: &mut [u8],
+    desk: Desk,
+    room: &mut [u8],
+) -> Answered
+    ensures { λ r. ⌜ Answers (Meant (now (line .entry)) command (now (table .entry)) desk) (now (room .entry)) r (now (table .exit)) (now (room .exit)) ⌝ }
+{
     let session = desk.session;
+    let size = desk.table;
     match command {
-        Command::Open | Command::Offer | Command::Play | Command::Record => turned(
+        Command::Table => taken(desk, set_table(word(line, 1), table, size, room)),
+        Command::Load => taken(desk, load_table(word(line, 1), table, size, room)),
+        Command::Check => said(desk, looks::check(table_in(table, size), room)),
+        Command::Claim => said(desk, looks::claim(table_in(table, size), room)),
+        Command::Open => turned(desk, records::open(table_in(table, size), room)),
+        Command::Offer => turned(
             desk,
-            turn(line, command, table, session, room),
+            records::offer(line, table_in(table, size), session, room),
         ),
-        _ => said(desk, look(line, command, table, session, room)),
+        Command::Play => turned(desk, records::play(table_in(table, size), session, room)),
+        Command::Message => said(
+            desk,
+            looks::message(line, table_in(table, size), session, room),
+        ),
+        Command::Hidden => said(desk, looks::hidden(line, table_in(table, size), room)),
+        Command::Model => said(desk, looks::model(line, table_in(table, size), room)),
+        Command::Record => turned(desk, records::record(line, session, room)),
+        Command::Help => said(desk, put_help(room)),
+        Command::Unknown => said(desk, put_fault(room, Fault::Command)),
     }
 }
 
 // The answer to a line without its end, written at the front of the room.
-pub fn answer(line: &[u8], table: &mut [u8], desk: Desk, room: &mut [u8]) -> Answered {
+pub fn answer(line: &[u8], table: &mut [u8], desk: Desk, room: &mut [u8]) -> Answered
+    ensures { λ r. ⌜ Answers (LineMeant (now (line .entry)) (now (table .entry)) desk) (now (room .entry)) r (now (table .exit)) (now (room .exit)) ⌝ }
+{
     let command = command_of(word(line, 0));
     let fault = fault_in(line, command);
-    let Fault::Nothing = fault else {
+    if !is_nothing(fault) {
         return said(desk, put_fault(room, fault));
-    };
-    match command {
-        Command::Table => taken(desk, set_table(word(line, 1), table, desk.table, room)),
-        Command::Load => taken(desk, load_table(word(line, 1), table, desk.table, room)),
-        _ => answer_on(line, command, table_in(table, desk.table), desk, room),
     }
+    answer_command(line, command, table, desk, room)
 }
 
 // The answer to what a feed has found in its room.
@@ -131,6 +170,7 @@ pub fn answer_found(
     room: &mut [u8],
 ) -> Answered
     requires { ⌜ Held (length (now lines)) feed ⌝ }
+    ensures { λ r. ⌜ Answers (FoundMeant (feed .found) (take (feed .end - feed .start) (drop (feed .start) (now (lines .entry)))) (now (table .entry)) desk) (now (room .entry)) r (now (table .exit)) (now (room .exit)) ⌝ }
 {
     let found = feed.found;
     let start = feed.start;
@@ -138,6 +178,7 @@ pub fn answer_found(
     match found {
         Found::Line => answer(&lines[start..end], table, desk, room),
         Found::Long => said(desk, put_fault(room, Fault::LongLine)),
-        Found::Nothing | Found::More => said(desk, 0),
+        Found::Nothing => said(desk, 0),
+        Found::More => said(desk, 0),
     }
 }

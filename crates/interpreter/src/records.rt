@@ -1,9 +1,8 @@
 // The commands that move the record on: open, offer, play, and record with its bytes.
-use crate::asking;
 use calls::Moved;
-use commands::command::Command;
 use commands::fault::Fault;
 use commands::fault::first_of;
+use commands::fault::is_nothing;
 use commands::fault::put_fault;
 use commands::number::fault_of;
 use commands::number::number_at;
@@ -19,6 +18,10 @@ use lines::words::count_words;
 use lines::words::word;
 use session::Session;
 use session::bytes::from_bytes;
+ghost use mathlib.Core.Path.{_≡_};
+ghost use Rattle.gdl.specs.Flags.{blank};
+ghost use Rattle.rules.specs.Judged.{judge};
+ghost use Rattle.interpreter.specs.Turns.{turned, wrong, movedOn, openTurn, offerTurn, playTurn, setTurn, recordTurn};
 
 // The record after a command, and how long the answer is.
 pub struct Turned {
@@ -26,65 +29,84 @@ pub struct Turned {
     pub length: usize,
 }
 
-fn kept(session: Session, length: usize) -> Turned {
+// "error WHAT", and the record stays.
+fn wrong(room: &mut [u8], fault: Fault, session: Session) -> Turned
+    ensures { λ r. ⌜ (r, now (room .exit)) ≡ turned (wrong fault session) (now (room .entry)) ⌝ }
+{
+    let length = put_fault(room, fault);
     Turned { session, length }
 }
 
 // "the record handed back is now current"
-fn moved(room: &mut [u8], moved: Moved) -> Turned {
+fn moved(room: &mut [u8], moved: Moved) -> Turned
+    ensures { λ r. ⌜ (r, now (room .exit)) ≡ turned (movedOn moved) (now (room .entry)) ⌝ }
+{
     let refusal = moved.refusal;
     let session = moved.session;
-    Turned {
-        session,
-        length: put_refusal(room, refusal),
-    }
+    let length = put_refusal(room, refusal);
+    Turned { session, length }
 }
 
-fn offer(line: &[u8], table: &[u8], session: Session, room: &mut [u8]) -> Turned {
+pub fn open(table: &[u8], room: &mut [u8]) -> Turned
+    ensures { λ r. ⌜ (r, now (room .exit)) ≡ turned (openTurn (judge (now (table .entry)))) (now (room .entry)) ⌝ }
+{
+    moved(room, referee::open_game(table))
+}
+
+pub fn offer(line: &[u8], table: &[u8], session: Session, room: &mut [u8]) -> Turned
+    ensures { λ r. ⌜ (r, now (room .exit)) ≡ turned (offerTurn (now (line .entry)) (judge (now (table .entry))) session) (now (room .entry)) ⌝ }
+{
     let seat = number_at(line, 1);
     let choice = number_at(line, 2);
     let fault = first_of(fault_of(seat), fault_of(choice));
-    let Fault::Nothing = fault else {
-        return kept(session, put_fault(room, fault));
-    };
+    if !is_nothing(fault) {
+        return wrong(room, fault, session);
+    }
     moved(
         room,
-        asking::offer(table, session, Seat(value_of(seat)), Move(value_of(choice))),
+        referee::offer(table, session, Seat(value_of(seat)), Move(value_of(choice))),
     )
 }
 
-fn set_record(word: &[u8], session: Session, room: &mut [u8]) -> Turned {
-    let mut bytes = [0u8; 2580];
+pub fn play(table: &[u8], session: Session, room: &mut [u8]) -> Turned
+    ensures { λ r. ⌜ (r, now (room .exit)) ≡ turned (playTurn (judge (now (table .entry))) session) (now (room .entry)) ⌝ }
+{
+    moved(room, referee::play(table, session))
+}
+
+fn no_bytes() -> [u8; 2580]
+    ensures { λ r. ⌜ r ≡ blank 2580 ⌝ }
+{
+    [0; 2580]
+}
+
+fn set_record(word: &[u8], session: Session, room: &mut [u8]) -> Turned
+    ensures { λ r. ⌜ (r, now (room .exit)) ≡ turned (setTurn (now (word .entry)) session) (now (room .entry)) ⌝ }
+{
+    let mut bytes = no_bytes();
     match read_hex(word, &mut bytes) {
-        Hex::NotHex => kept(session, put_fault(room, Fault::NotHex)),
-        Hex::TooMany => kept(session, put_fault(room, Fault::RecordBytes)),
+        Hex::NotHex => wrong(room, Fault::NotHex, session),
+        Hex::TooMany => wrong(room, Fault::RecordBytes, session),
         Hex::Bytes(n) => {
             if n != 2580 {
-                return kept(session, put_fault(room, Fault::RecordBytes));
+                return wrong(room, Fault::RecordBytes, session);
             }
-            kept(from_bytes(&bytes), put_ok(room, n))
+            let read = from_bytes(&bytes);
+            let length = put_ok(room, n);
+            Turned {
+                session: read,
+                length,
+            }
         }
     }
 }
 
-fn record(line: &[u8], session: Session, room: &mut [u8]) -> Turned {
+pub fn record(line: &[u8], session: Session, room: &mut [u8]) -> Turned
+    ensures { λ r. ⌜ (r, now (room .exit)) ≡ turned (recordTurn (now (line .entry)) session) (now (room .entry)) ⌝ }
+{
     if count_words(line) == 1 {
-        return kept(session, put_record(room, session));
+        let length = put_record(room, session);
+        return Turned { session, length };
     }
     set_record(word(line, 1), session, room)
-}
-
-pub fn turn(
-    line: &[u8],
-    command: Command,
-    table: &[u8],
-    session: Session,
-    room: &mut [u8],
-) -> Turned {
-    match command {
-        Command::Open => moved(room, asking::open_game(table)),
-        Command::Offer => offer(line, table, session, room),
-        Command::Play => moved(room, asking::play(table, session)),
-        _ => record(line, session, room),
-    }
 }

@@ -1,19 +1,18 @@
--- The room keeps its length, and the index stays below what is moved.
-use mathlib.Core.Path.{_≡_}
-use Prim.Native.Nat.{_-_, _≤_}
-use lib.ListN.{length}
+-- The invariant: what is not moved yet stands where it stood.
+use Prim.Native.Nat.{_-_}
 use borrow.Author.Needs.{needs}
+use Rattle.feed.proofs.Feeding.{Fronting, frontings}
 use Rattle.feed.proofs.to_front.Statement.{statement}
 use Rattle.feed.proofs.to_front.Tie as tie
 
 abbrev Inv-loop : tie.InvT-loop
-Inv-loop room₀ start have i₀ room i = (length room ≡ length room₀) × (i ≤ have - start)
+Inv-loop room₀ start have i₀ room i = Fronting room₀ start have room i
 
 abbrev μ-loop : tie.MeasureT-loop
 μ-loop room₀ start have i₀ room i = have - start - i
 
 loop-holds : tie.Need-loop-holds Inv-loop μ-loop
-loop-holds c = search needs
+loop-holds c = search (needs, frontings)
 
 sub-loop : tie.Need-sub-loop Inv-loop μ-loop
 sub-loop c = search needs
@@ -34,13 +33,13 @@ loop-less : tie.Need-loop-less Inv-loop μ-loop
 loop-less c = search needs
 
 loop-again : tie.Need-loop-again Inv-loop μ-loop
-loop-again c = search needs
+loop-again c = search (needs, frontings)
 
 same-length : tie.Need-same-length Inv-loop μ-loop
 same-length c = search needs
 
 returns : tie.Need-returns Inv-loop μ-loop
-returns c = search needs
+returns c = search (needs, frontings)
 
 pub to-front-spec : {M : Type 1} → statement M
 to-front-spec =

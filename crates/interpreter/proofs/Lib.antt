@@ -1,0 +1,5 @@
+pub mod Saying
+pub mod Looking
+pub mod Turning
+pub mod Taking
+pub mod Answering
