@@ -4,7 +4,7 @@ use mathlib.Core.Bool.{Bool, true, false, not, _&&_}
 use mathlib.Core.List.{List, [], _∷_, map}
 use Prim.Native.Nat.{ℕ, suc, _+_, _*_, _≤_, _<_}
 use native.Mathlib.Omega.{arith}
-use lib.Dec.{T, eqb, leb, leb→le}
+use lib.Dec.{T, eqb}
 use lib.ListN.{length, getD, take}
 use borrow.Author.Tests.{ne-eqb, eq-eqb, not-true, not-false}
 use Rattle.refusals.specs.Refusal.{numberOf}
@@ -13,8 +13,8 @@ use Rattle.gdl.specs.Game.{Atom, Game, legalKind, terminalKind, goalKind}
 use Rattle.gdl.specs.Flags.{on, bit, blank}
 use Rattle.gdl.specs.Truth.{isFact}
 use Rattle.gdl.specs.Computed.{did, facts, model}
-use Rattle.gdl.proofs.Tests.{and-left}
 use Rattle.gdl.proofs.Walks.{zeros}
+use Rattle.table.proofs.Faults.{numbered}
 use Rattle.rules.specs.Verdict.{Verdict, unfit, fit}
 use Rattle.rules.specs.Judged.{judge}
 use Rattle.rules.specs.Accepted.{Accepted}
@@ -66,7 +66,7 @@ module _ (s : List ℕ) (c : Consulted) (pos ch : List ℕ) (e : c ≡ consulted
       go : (v : Verdict) → judge s ≡ v → Accepting
       go (unfit r) q =
           let f : c .refusal ≡ r = ap (λ (x : Consulted). x .refusal) (rw q at e) in
-          let some : 1 ≤ numberOf r = leb→le 1 (numberOf r) (and-left (leb 1 (numberOf r)) (leb (numberOf r) 13) (unfit-of-table s r q)) in
+          let some : 1 ≤ numberOf r = numbered r (unfit-of-table s r q) in
           absurd (omega (arith, ap numberOf f))
       go (fit G) q = record { game = G; judged = q; is = rw q at e; ok = accepted s G q }
 

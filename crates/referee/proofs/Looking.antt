@@ -4,7 +4,7 @@ use mathlib.Core.Bool.{Bool, true, false, not}
 use mathlib.Core.List.{List, []}
 use Prim.Native.Nat.{ℕ, _+_, _*_, _≤_, _<_}
 use native.Mathlib.Omega.{arith}
-use lib.Dec.{eqb, leb, leb→le}
+use lib.Dec.{eqb, leb}
 use lib.ListN.{length, getD}
 use borrow.Author.Tests.{le-leb, lt-leb, ne-eqb, eq-eqb}
 use Rattle.refusals.specs.Refusal.{numberOf}
@@ -13,7 +13,7 @@ use Rattle.refusals.specs.declared.Refusal.the-variants.{Success}
 use Rattle.gdl.specs.Game.{Game}
 use Rattle.gdl.specs.Flags.{on, bit}
 use Rattle.gdl.specs.Computed.{reachOf, hidden}
-use Rattle.gdl.proofs.Tests.{and-left}
+use Rattle.table.proofs.Faults.{numbered}
 use Rattle.rules.specs.Accepted.{Accepted}
 use Rattle.rules.specs.Verdict.{Verdict, unfit, fit}
 use Rattle.rules.specs.Judged.{judge}
@@ -92,7 +92,7 @@ module _ (t : List ℕ) (c : Consulted) (z : ℕ) (e : c ≡ traced (judge t) z)
       go : (v : Verdict) → judge t ≡ v → Tracing
       go (unfit r) q =
           let f : c .refusal ≡ r = ap (λ (x : Consulted). x .refusal) (rw q at e) in
-          let some : 1 ≤ numberOf r = leb→le 1 (numberOf r) (and-left (leb 1 (numberOf r)) (leb (numberOf r) 13) (unfit-of-table t r q)) in
+          let some : 1 ≤ numberOf r = numbered r (unfit-of-table t r q) in
           absurd (omega (arith, ap numberOf f))
       go (fit G) q = record { game = G; judged = q; is = rw q at e; ok = accepted t G q }
 
