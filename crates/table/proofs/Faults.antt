@@ -1,9 +1,9 @@
--- A table that cannot be read is refused with one of the table's own numbers, 1 to 13.
+-- A table that cannot be read is refused with one of the table's own numbers, 1 to 13 or 24.
 use mathlib.Core.Path.{_≡_, subst}
-use mathlib.Core.Bool.{Bool, true, false, _&&_}
+use mathlib.Core.Bool.{Bool, true, false, _&&_, _||_}
 use mathlib.Core.List.{List}
 use Prim.Native.Nat.{ℕ, zero, suc, _+_, _-_, _*_}
-use lib.Dec.{T, ltb, leb}
+use lib.Dec.{T, eqb, ltb, leb}
 use lib.ListN.{length}
 use Rattle.numbers.specs.Number.{numberAt}
 use Rattle.numbers.specs.declared.Number.{Number}
@@ -20,7 +20,7 @@ use Rattle.table.specs.declared.atoms.Bound.the-variants.{Absent, Below}
 
 -- a refusal of a table
 abbrev pub OfTable : Refusal → Type 0
-OfTable r = T (leb 1 (numberOf r) && leb (numberOf r) 13)
+OfTable r = T (leb 1 (numberOf r) && (leb (numberOf r) 13 || eqb (numberOf r) 24))
 
 pub not-success : (r : Refusal) → OfTable r → r ≡ Success → ⊥
 not-success r h e = subst OfTable e h

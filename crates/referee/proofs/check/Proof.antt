@@ -1,3 +1,4 @@
+-- The refusal of the table that was examined.
 use Rattle.referee.proofs.Opening.{check-kept}
 use borrow.Author.Needs.{needs}
 use Rattle.referee.proofs.check.Statement.{statement}

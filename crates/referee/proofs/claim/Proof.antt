@@ -1,3 +1,4 @@
+-- The claim of the table that was examined.
 use Rattle.referee.proofs.Opening.{claim-kept}
 use borrow.Author.Needs.{needs}
 use Rattle.referee.proofs.claim.Statement.{statement}

@@ -1,3 +1,4 @@
+-- The parts of the arrays that are in use hold the game that the arrays hold.
 use native.Mathlib.Omega.{arith}
 use Rattle.verdict.proofs.Laying.{ends, holds-part, judges-part}
 use borrow.Author.Needs.{needs}

@@ -1,9 +1,9 @@
+-- The parts of the arrays that are in use hold the game that the arrays hold.
 use native.Mathlib.Omega.{arith}
 use Rattle.verdict.proofs.Laying.{trace-ends, trace-ready, held-trace}
 use borrow.Author.Needs.{needs}
 use Rattle.verdict.proofs.reach_part.Statement.{statement}
 use Rattle.verdict.proofs.reach_part.Tie as tie
-use Rattle.verdict.proofs.reach_part.Reads as reads
 
 mul-m : tie.Need-mul-m
 mul-m c = search needs

@@ -1,3 +1,4 @@
+-- The parts of the arrays that are in use hold the game that the arrays hold.
 use native.Mathlib.Omega.{arith}
 use Rattle.verdict.proofs.Laying.{model-ends, model-ready, held-model}
 use borrow.Author.Needs.{needs}

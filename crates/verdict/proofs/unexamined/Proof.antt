@@ -1,3 +1,4 @@
+-- A refusal with a blank header.
 use borrow.Author.Needs.{needs}
 use Rattle.verdict.proofs.unexamined.Statement.{statement}
 use Rattle.verdict.proofs.unexamined.Tie as tie

@@ -1,3 +1,4 @@
+-- The tests of hidden in their order, and then the mark of the move in the reach.
 use native.Mathlib.Omega.{arith}
 use Rattle.gdl.specs.Computed.{reachOf}
 use Rattle.referee.proofs.Looking.{seat-out, seat-in, seat-small, move-out, move-small, is-seen, is-hidden, traced-fit}

@@ -1,3 +1,4 @@
+-- The tests of offer in their order, each return by its law, and then the stored choice.
 use native.Mathlib.Omega.{arith}
 use Rattle.referee.proofs.Asking.{fit-of}
 use Rattle.referee.proofs.Offering.{misshapen, well-shaped, is-over, goes-on, no-seat, a-seat, seat-few, no-move, a-move, move-few, has-chosen, not-chosen, is-illegal, is-legal}

@@ -1,3 +1,4 @@
+-- The tests of play in their order, each return by its law, and then the record moved on.
 use mathlib.Core.Path.{_∙_, ap}
 use native.Mathlib.Omega.{arith}
 use borrow.Author.Tests.{eq-eqb, ne-eqb}

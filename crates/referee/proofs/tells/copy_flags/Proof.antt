@@ -1,3 +1,4 @@
+-- Up to place k the room holds the flags, and behind it what it held.
 use borrow.Author.Needs.{needs}
 use Prim.Native.Nat.{_-_}
 use Rattle.referee.proofs.Telling.{Copied, copieds}

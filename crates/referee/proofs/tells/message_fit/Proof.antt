@@ -1,3 +1,4 @@
+-- The tests of message in their order, and then the message written.
 use mathlib.Core.Path.{refl}
 use native.Mathlib.Omega.{arith}
 use lib.ListN.{length}

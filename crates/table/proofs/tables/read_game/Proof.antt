@@ -1,8 +1,8 @@
+-- The atoms, and then the rest.
 use Rattle.table.proofs.Whole.{game-laws}
 use borrow.Author.Needs.{needs}
 use Rattle.table.proofs.tables.read_game.Statement.{statement}
 use Rattle.table.proofs.tables.read_game.Tie as tie
-use Rattle.table.proofs.tables.read_game.Reads as reads
 
 read-atoms-requires : tie.Need-read-atoms-requires
 read-atoms-requires c κs = search needs

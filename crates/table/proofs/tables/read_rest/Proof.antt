@@ -1,8 +1,8 @@
+-- The count of clauses, the clauses, and nothing after.
 use Rattle.table.proofs.Whole.{rest-laws, many-fit}
 use borrow.Author.Needs.{needs}
 use Rattle.table.proofs.tables.read_rest.Statement.{statement}
 use Rattle.table.proofs.tables.read_rest.Tie as tie
-use Rattle.table.proofs.tables.read_rest.Reads as reads
 
 read-field-requires : tie.Need-read-field-requires
 read-field-requires c κs = search needs
