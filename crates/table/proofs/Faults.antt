@@ -1,5 +1,4 @@
 -- A table that cannot be read is refused with one of the table's own numbers, 1 to 13 or 24.
-use mathlib.Core.Path.{_≡_, subst}
 use mathlib.Core.Bool.{Bool, true, false, _&&_, _||_}
 use mathlib.Core.List.{List}
 use Prim.Native.Nat.{ℕ, zero, suc, _+_, _-_, _*_}
@@ -11,7 +10,7 @@ use Rattle.numbers.specs.declared.Number.the-variants.{Read, Cut, Long, Large}
 use Rattle.numbers.proofs.Reading.{by-test}
 use Rattle.refusals.specs.Refusal.{numberOf}
 use Rattle.refusals.specs.declared.Refusal.{Refusal}
-use Rattle.refusals.specs.declared.Refusal.the-variants.{Success, OutOfRange, NotAbove, BytesAfter, TableTooLong}
+use Rattle.refusals.specs.declared.Refusal.the-variants.{OutOfRange, NotAbove, BytesAfter, TableTooLong}
 use Rattle.table.specs.Parse.{Parse, ok, fault, after, refuse_if_, inRange, bounded}
 use Rattle.table.specs.Table.{players, sizes, header, firstBound, secondBound, field, atom, key, atomsFrom, literals, clause, clausesFrom, clauses, game, table}
 use Rattle.table.specs.declared.header.Header.{Header}
@@ -21,9 +20,6 @@ use Rattle.table.specs.declared.atoms.Bound.the-variants.{Absent, Below}
 -- a refusal of a table
 abbrev pub OfTable : Refusal → Type 0
 OfTable r = T (leb 1 (numberOf r) && (leb (numberOf r) 13 || eqb (numberOf r) 24))
-
-pub not-success : (r : Refusal) → OfTable r → r ≡ Success → ⊥
-not-success r h e = subst OfTable e h
 
 abbrev pub Faults : {A : Type 0} → Parse A → Type 0
 Faults (ok a n) = Unit {0}
