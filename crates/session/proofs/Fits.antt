@@ -1,19 +1,20 @@
 -- Laws of the loops that test a shape.
-use mathlib.Core.Path.{_≡_, refl, sym, ap, ap₂, _∙_}
-use mathlib.Core.Bool.{Bool, true, false, not, _&&_, cond}
+use mathlib.Core.Path.{_≡_, refl, sym, ap, ap₂, subst, _∙_}
+use mathlib.Core.Bool.{Bool, true, false, not, _&&_}
 use mathlib.Core.List.{List, [], _∷_}
-use Prim.Native.Nat.{ℕ, zero, suc, _+_, _/_, _%_, _≤_, _<_}
+use Prim.Native.Nat.{ℕ, zero, suc, _+_, _-_, _/_, _%_, _≤_, _<_}
 use native.Mathlib.Omega.{arith}
 use native.Mathlib.Numerals.{add-one}
-use lib.Dec.{eqb, leb, ltb}
+use lib.Dec.{T, eqb, leb, ltb, eqb→eq}
 use lib.ListN.{length, getD, drop}
 use lib.Seq.{drop-cons, drop-length}
-use native.Mathlib.Decide.{decLt}
+use native.Mathlib.Decide.{ℕ-discrete, decLt}
 use borrow.Author.Tests.{le-leb, lt-leb, lt-ltb, le-ltb, eq-eqb, ne-eqb, not-true, not-false}
 use Rattle.gdl.specs.Game.{Game}
 use Rattle.gdl.specs.Flags.{bit}
 use Rattle.gdl.specs.Lists.{everyFrom, every}
-use Rattle.session.specs.Shape.{below, inGrid, flagFits, fluentFits, choiceWithin, positionShaped, choicesShaped, perceptsShaped, shaped, limitsOf}
+use Rattle.session.specs.Shape.{below, inGrid, flagFits, choiceWithin, positionShaped, choicesShaped, perceptsShaped, shaped, limitsOf}
+use Rattle.session.specs.Runs.{Eight, EightIf, Fitting}
 use Rattle.session.specs.declared.Session.{Session}
 use Rattle.session.specs.declared.shape.Limits.{Limits}
 
@@ -41,7 +42,22 @@ module _ (f : ℕ → ℕ → Bool) (l : List ℕ) where
     pub testing-ends : length l ≤ k → true ≡ every f l
     testing-ends h = let e : k ≡ length l = omega (arith, i .within) in rw (i .left, e, drop-length l)
 
-pub ruleset testings = (testing-starts, testing-stops, testing-goes, testing-ends)
+  -- several at once
+  jump : (k : ℕ) → Testing f l k → (n : ℕ) → k + n ≤ length l → ((j : ℕ) → k ≤ j → j < k + n → f j (getD l j 0) ≡ true) → Testing f l (k + n)
+  jump k i zero le p = let e : k ≡ k + 0 = omega arith in subst (Testing f l) e i
+  jump k i (suc n) le p =
+      let t : Testing f l (k + n) = jump k i n (omega arith) (λ j ge lt. p j ge (omega arith)) in
+      let e : k + n + 1 ≡ k + suc n = omega arith in
+      subst (Testing f l) e (testing-goes (k + n) t (omega arith) (f (k + n) (getD l (k + n) 0)) refl (ap not (p (k + n) (omega arith) (omega arith))))
+
+  module _ (k : ℕ) (i : Testing f l k) (n : ℕ) (w : Fitting f l k n) where
+    pub testing-jumps : Testing f l (k + n)
+    testing-jumps = jump k i n (w .within) (w .pass)
+
+    pub testing-stuck : k < length l → n ≡ 0 → false ≡ every f l
+    testing-stuck h e = testing-stops k i h (f k (getD l k 0)) refl (ap not (w .stuck e))
+
+pub ruleset testings = (testing-starts, testing-stops, testing-goes, testing-jumps, testing-stuck, testing-ends)
 
 -- ---- one element
 
@@ -74,6 +90,60 @@ module _ (x : ℕ) where
 
   pub seat-out : (seats moves s : ℕ) → seats ≤ s → eqb x 0 ≡ choiceWithin seats moves s x
   seat-out seats moves s h = rw (le-ltb s seats h) none
+
+-- ---- eight flags, or one
+
+module _ (l : List ℕ) (i : ℕ) where
+  pub eight-by : (r : Bool) → i < length l → 8 ≤ length l - i
+      → r ≡ eqb (getD l i 0 + getD l (i + 1) 0 + getD l (i + 2) 0 + getD l (i + 3) 0 + getD l (i + 4) 0 + getD l (i + 5) 0 + getD l (i + 6) 0 + getD l (i + 7) 0) 0 → EightIf l i r
+  eight-by false lt le e = tt
+  eight-by true lt le e =
+      let z : getD l i 0 + getD l (i + 1) 0 + getD l (i + 2) 0 + getD l (i + 3) 0 + getD l (i + 4) 0 + getD l (i + 5) 0 + getD l (i + 6) 0 + getD l (i + 7) 0 ≡ 0 = eqb→eq _ 0 (subst T e tt) in
+      record { within = omega arith; unset = λ j ge lt′. one z j (j - i) (omega arith) (omega arith) }
+    where
+      one : getD l i 0 + getD l (i + 1) 0 + getD l (i + 2) 0 + getD l (i + 3) 0 + getD l (i + 4) 0 + getD l (i + 5) 0 + getD l (i + 6) 0 + getD l (i + 7) 0 ≡ 0
+          → (j k : ℕ) → j ≡ i + k → k < 8 → getD l j 0 ≡ 0
+      one z j k e lt = elim (decLt k 4) [
+        | yes l ↦ elim (ℕ-discrete k 0) [
+          | yes h ↦ let q : j ≡ i = omega arith in rw q (omega arith)
+          | no h1 ↦ elim (ℕ-discrete k 1) [
+            | yes h ↦ let q : j ≡ i + 1 = omega arith in rw q (omega arith)
+            | no h2 ↦ elim (ℕ-discrete k 2) [
+              | yes h ↦ let q : j ≡ i + 2 = omega arith in rw q (omega arith)
+              | no h3 ↦ let q : j ≡ i + 3 = omega arith in rw q (omega arith)
+            ]
+          ]
+        ]
+        | no l ↦ elim (ℕ-discrete k 4) [
+          | yes h ↦ let q : j ≡ i + 4 = omega arith in rw q (omega arith)
+          | no h1 ↦ elim (ℕ-discrete k 5) [
+            | yes h ↦ let q : j ≡ i + 5 = omega arith in rw q (omega arith)
+            | no h2 ↦ elim (ℕ-discrete k 6) [
+              | yes h ↦ let q : j ≡ i + 6 = omega arith in rw q (omega arith)
+              | no h3 ↦ let q : j ≡ i + 7 = omega arith in rw q (omega arith)
+            ]
+          ]
+        ]
+      ]
+
+  module _ (width rows columns : ℕ) where
+    pub fits-eight : (r : Bool) → EightIf l i r → r ≡ true → Fitting (flagFits (inGrid width rows columns)) l i 8
+    fits-eight r w e =
+        let u : Eight l i = rw e at w in
+        record { within = u .within; pass = λ j ge lt. sym (unset (getD l j 0) j width rows columns (u .unset j ge lt)); stuck = λ z. absurd (omega arith) }
+
+    module _ (lt : i < length l) (r : Bool) (e : r ≡ flagFits (inGrid width rows columns) i (getD l i 0)) where
+      pub fits-one : r ≡ true → Fitting (flagFits (inGrid width rows columns)) l i 1
+      fits-one t = record {
+        within = omega arith;
+        pass = λ j ge le. let q : j ≡ i = omega arith in rw q (sym e ∙ t);
+        stuck = λ z. absurd (omega arith);
+      }
+
+      pub fits-none : r ≡ false → Fitting (flagFits (inGrid width rows columns)) l i 0
+      fits-none t = record { within = omega arith; pass = λ j ge le. absurd (omega arith); stuck = λ _. sym e ∙ t }
+
+pub ruleset runs = (eight-by, fits-eight, fits-one, fits-none)
 
 pub ruleset elements = (row-in, row-out, unset, may-be, may-not, seat-in, seat-out)
 

@@ -1,12 +1,13 @@
 // Which records are well shaped.
 use crate::Session;
 ghost use mathlib.Core.Path.{_≡_};
-ghost use Prim.Native.Nat.{_<_};
+ghost use Prim.Native.Nat.{_+_, _<_};
 ghost use Rattle.gdl.specs.Lists.{every};
-ghost use lib.Dec.{leb};
+ghost use lib.Dec.{eqb};
+ghost use lib.ListN.{length};
 ghost use Rattle.gdl.specs.Game.{Game};
-ghost use Rattle.gdl.specs.Flags.{bit};
 ghost use Rattle.session.specs.Shape.{flagFits, below, inGrid, choiceWithin, shaped, limitsOf};
+ghost use Rattle.session.specs.Runs.{EightIf, Fitting};
 
 // How much of each thing a game has.
 pub struct Limits {
@@ -27,8 +28,8 @@ fn in_grid(i: usize, width: usize, rows: u16, columns: u16) -> bool
     false
 }
 
-// Whether a flag at place i is at most 1 where it may be set, and else 0. Nearly all flags are 0, which fits anywhere: asked first, since the
-// place costs a division.
+// Whether a flag at place i is at most 1 where it may be set, and else 0. A flag of 0 fits anywhere: asked first, since the place costs a
+// division.
 fn flag_fits(x: u8, i: usize, width: usize, rows: u16, columns: u16) -> bool
     requires { ⌜ 0 < width ⌝ }
     ensures { λ r. ⌜ r ≡ flagFits (inGrid width rows columns) i x ⌝ }
@@ -42,6 +43,47 @@ fn flag_fits(x: u8, i: usize, width: usize, rows: u16, columns: u16) -> bool
     false
 }
 
+// Whether eight flags are 0, by one sum: no branch for each.
+fn none_set(a: u8, b: u8, c: u8, d: u8, e: u8, f: u8, g: u8, h: u8) -> bool
+    ensures { λ r. ⌜ r ≡ eqb (a + b + c + d + e + f + g + h) 0 ⌝ }
+{
+    a as u16 + b as u16 + c as u16 + d as u16 + e as u16 + f as u16 + g as u16 + h as u16 == 0
+}
+
+// Whether there are eight flags from place i on, all of them 0.
+fn eight_unset(flags: &[u8], i: usize) -> bool
+    requires { ⌜ i < length (now flags) ⌝ }
+    ensures { λ r. ⌜ EightIf (now (flags .entry)) i r ⌝ }
+{
+    if flags.len() - i < 8 {
+        return false;
+    }
+    none_set(
+        flags[i],
+        flags[i + 1],
+        flags[i + 2],
+        flags[i + 3],
+        flags[i + 4],
+        flags[i + 5],
+        flags[i + 6],
+        flags[i + 7],
+    )
+}
+
+// How many flags from place i on were found to fit: eight where eight are 0, which is nearly everywhere, else one, or none.
+fn fitting(flags: &[u8], i: usize, width: usize, rows: u16, columns: u16) -> usize
+    requires { ⌜ (0 < width) × (i < length (now flags)) ⌝ }
+    ensures { λ n. ⌜ Fitting (flagFits (inGrid width rows columns)) (now (flags .entry)) i n ⌝ }
+{
+    if eight_unset(flags, i) {
+        return 8;
+    }
+    if flag_fits(flags[i], i, width, rows, columns) {
+        return 1;
+    }
+    0
+}
+
 // Whether flags are 0 or 1, and set only within a grid.
 fn flags_fit(flags: &[u8], width: usize, rows: u16, columns: u16) -> bool
     requires { ⌜ 0 < width ⌝ }
@@ -49,10 +91,11 @@ fn flags_fit(flags: &[u8], width: usize, rows: u16, columns: u16) -> bool
 {
     let mut i: usize = 0;
     while i < flags.len() {
-        if !flag_fits(flags[i], i, width, rows, columns) {
+        let n = fitting(flags, i, width, rows, columns);
+        if n == 0 {
             return false;
         }
-        i += 1;
+        i += n;
     }
     true
 }
