@@ -5,16 +5,17 @@ use mathlib.Core.List.{List, [], _∷_}
 use Prim.Native.Nat.{ℕ, zero, suc, _+_, _-_, _/_, _%_, _≤_, _<_}
 use native.Mathlib.Omega.{arith}
 use native.Mathlib.Numerals.{add-one}
-use lib.Dec.{T, eqb, leb, ltb, eqb→eq}
-use lib.ListN.{length, getD, drop}
-use lib.Seq.{drop-cons, drop-length}
+use lib.Dec.{eqb, leb, ltb}
+use lib.ListN.{length, getD, take, drop, length-drop}
+use lib.Seq.{drop-cons, drop-length, length-take-le, getD-take, getD-drop}
+use borrow.Author.Count.{below-more}
 use native.Mathlib.Decide.{ℕ-discrete, decLt}
 use borrow.Author.Tests.{le-leb, lt-leb, lt-ltb, le-ltb, eq-eqb, ne-eqb, not-true, not-false}
 use Rattle.gdl.specs.Game.{Game}
 use Rattle.gdl.specs.Flags.{bit}
 use Rattle.gdl.specs.Lists.{everyFrom, every}
 use Rattle.session.specs.Shape.{below, inGrid, flagFits, choiceWithin, positionShaped, choicesShaped, perceptsShaped, shaped, limitsOf}
-use Rattle.session.specs.Runs.{Eight, EightIf, Fitting}
+use Rattle.session.specs.Runs.{Bounds, Run, RunIf, Fitting}
 use Rattle.session.specs.declared.Session.{Session}
 use Rattle.session.specs.declared.shape.Limits.{Limits}
 
@@ -91,45 +92,45 @@ module _ (x : ℕ) where
   pub seat-out : (seats moves s : ℕ) → seats ≤ s → eqb x 0 ≡ choiceWithin seats moves s x
   seat-out seats moves s h = rw (le-ltb s seats h) none
 
--- ---- eight flags, or one
+-- ---- a run of flags, or one
+
+module _ (l : List ℕ) where
+  pub bounds-start : (top : ℕ) → Bounds l 0 top
+  bounds-start top = record { below = λ j lt. absurd (omega arith) }
+
+  module _ (k top : ℕ) (b : Bounds l k top) where
+    pub bounds-more : (r : ℕ) → (top ≤ r) × (getD l k 0 ≤ r) → Bounds l (k + 1) r
+    bounds-more r (x, y) = record { below = below-more (λ (j : ℕ). getD l j 0 ≤ r) k (λ j lt. omega (arith, b .below j lt)) y }
+
+    pub bounds-all : length l ≤ k → Bounds l (length l) top
+    bounds-all le = record { below = λ j lt. b .below j (omega arith) }
+
+pub ruleset bounding = (bounds-start, bounds-more, bounds-all)
 
 module _ (l : List ℕ) (i : ℕ) where
-  pub eight-by : (r : Bool) → i < length l → 8 ≤ length l - i
-      → r ≡ eqb (getD l i 0 + getD l (i + 1) 0 + getD l (i + 2) 0 + getD l (i + 3) 0 + getD l (i + 4) 0 + getD l (i + 5) 0 + getD l (i + 6) 0 + getD l (i + 7) 0) 0 → EightIf l i r
-  eight-by false lt le e = tt
-  eight-by true lt le e =
-      let z : getD l i 0 + getD l (i + 1) 0 + getD l (i + 2) 0 + getD l (i + 3) 0 + getD l (i + 4) 0 + getD l (i + 5) 0 + getD l (i + 6) 0 + getD l (i + 7) 0 ≡ 0 = eqb→eq _ 0 (subst T e tt) in
-      record { within = omega arith; unset = λ j ge lt′. one z j (j - i) (omega arith) (omega arith) }
+  pub run-by : i < length l → 64 ≤ length l - i → (h : ℕ) → Bounds (take (i + 64 - i) (drop i l)) (length (take (i + 64 - i) (drop i l))) h → RunIf l i (eqb h 0)
+  run-by lt le h b = elim (ℕ-discrete h 0) [
+    | yes e ↦ rw (eq-eqb h 0 e) (record { within = room; unset = λ j ge jl. zero-at j ge jl e })
+    | no n ↦ rw (ne-eqb h 0 n) tt
+  ]
     where
-      one : getD l i 0 + getD l (i + 1) 0 + getD l (i + 2) 0 + getD l (i + 3) 0 + getD l (i + 4) 0 + getD l (i + 5) 0 + getD l (i + 6) 0 + getD l (i + 7) 0 ≡ 0
-          → (j k : ℕ) → j ≡ i + k → k < 8 → getD l j 0 ≡ 0
-      one z j k e lt = elim (decLt k 4) [
-        | yes l ↦ elim (ℕ-discrete k 0) [
-          | yes h ↦ let q : j ≡ i = omega arith in rw q (omega arith)
-          | no h1 ↦ elim (ℕ-discrete k 1) [
-            | yes h ↦ let q : j ≡ i + 1 = omega arith in rw q (omega arith)
-            | no h2 ↦ elim (ℕ-discrete k 2) [
-              | yes h ↦ let q : j ≡ i + 2 = omega arith in rw q (omega arith)
-              | no h3 ↦ let q : j ≡ i + 3 = omega arith in rw q (omega arith)
-            ]
-          ]
-        ]
-        | no l ↦ elim (ℕ-discrete k 4) [
-          | yes h ↦ let q : j ≡ i + 4 = omega arith in rw q (omega arith)
-          | no h1 ↦ elim (ℕ-discrete k 5) [
-            | yes h ↦ let q : j ≡ i + 5 = omega arith in rw q (omega arith)
-            | no h2 ↦ elim (ℕ-discrete k 6) [
-              | yes h ↦ let q : j ≡ i + 6 = omega arith in rw q (omega arith)
-              | no h3 ↦ let q : j ≡ i + 7 = omega arith in rw q (omega arith)
-            ]
-          ]
-        ]
-      ]
+      room : i + 64 ≤ length l
+      room = omega arith
+
+      many : length (take (i + 64 - i) (drop i l)) ≡ i + 64 - i
+      many = length-take-le (i + 64 - i) (drop i l) (omega (arith, length-drop i l))
+
+      zero-at : (j : ℕ) → i ≤ j → j < i + 64 → h ≡ 0 → getD l j 0 ≡ 0
+      zero-at j ge jl e =
+          let k : ℕ = j - i in
+          let q : i + (j - i) ≡ j = omega arith in
+          let g : getD (take (i + 64 - i) (drop i l)) (j - i) 0 ≡ getD l j 0 = getD-take (i + 64 - i) (drop i l) (j - i) 0 (omega arith) ∙ (getD-drop i l (j - i) 0 ∙ ap (λ (x : ℕ). getD l x 0) q) in
+          omega (arith, b .below (j - i) (omega (arith, many)))
 
   module _ (width rows columns : ℕ) where
-    pub fits-eight : (r : Bool) → EightIf l i r → r ≡ true → Fitting (flagFits (inGrid width rows columns)) l i 8
-    fits-eight r w e =
-        let u : Eight l i = rw e at w in
+    pub fits-run : (r : Bool) → RunIf l i r → r ≡ true → Fitting (flagFits (inGrid width rows columns)) l i 64
+    fits-run r w e =
+        let u : Run l i = rw e at w in
         record { within = u .within; pass = λ j ge lt. sym (unset (getD l j 0) j width rows columns (u .unset j ge lt)); stuck = λ z. absurd (omega arith) }
 
     module _ (lt : i < length l) (r : Bool) (e : r ≡ flagFits (inGrid width rows columns) i (getD l i 0)) where
@@ -143,7 +144,7 @@ module _ (l : List ℕ) (i : ℕ) where
       pub fits-none : r ≡ false → Fitting (flagFits (inGrid width rows columns)) l i 0
       fits-none t = record { within = omega arith; pass = λ j ge le. absurd (omega arith); stuck = λ _. sym e ∙ t }
 
-pub ruleset runs = (eight-by, fits-eight, fits-one, fits-none)
+pub ruleset runs = (run-by, fits-run, fits-one, fits-none)
 
 pub ruleset elements = (row-in, row-out, unset, may-be, may-not, seat-in, seat-out)
 

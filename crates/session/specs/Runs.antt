@@ -5,14 +5,18 @@ use mathlib.Core.List.{List}
 use Prim.Native.Nat.{ℕ, _+_, _<_, _≤_}
 use lib.ListN.{length, getD}
 
--- eight flags from i on, all 0
-pub record Eight (l : List ℕ) (i : ℕ) : Type 0 where
-  pub within : i + 8 ≤ length l
-  pub unset : (j : ℕ) → i ≤ j → j < i + 8 → getD l j 0 ≡ 0
+-- none of the first n elements is above r
+pub record Bounds (l : List ℕ) (n r : ℕ) : Type 0 where
+  pub below : (j : ℕ) → j < n → getD l j 0 ≤ r
 
-abbrev pub EightIf : List ℕ → ℕ → Bool → Type 0
-EightIf l i true = Eight l i
-EightIf l i false = Unit {0}
+-- 64 flags from i on, all 0
+pub record Run (l : List ℕ) (i : ℕ) : Type 0 where
+  pub within : i + 64 ≤ length l
+  pub unset : (j : ℕ) → i ≤ j → j < i + 64 → getD l j 0 ≡ 0
+
+abbrev pub RunIf : List ℕ → ℕ → Bool → Type 0
+RunIf l i true = Run l i
+RunIf l i false = Unit {0}
 
 -- the n elements from i on pass; where n is 0, element i does not
 pub record Fitting (f : ℕ → ℕ → Bool) (l : List ℕ) (i n : ℕ) : Type 0 where

@@ -1,13 +1,12 @@
 // Which records are well shaped.
 use crate::Session;
 ghost use mathlib.Core.Path.{_≡_};
-ghost use Prim.Native.Nat.{_+_, _<_};
+ghost use Prim.Native.Nat.{_<_, _≤_};
 ghost use Rattle.gdl.specs.Lists.{every};
-ghost use lib.Dec.{eqb};
 ghost use lib.ListN.{length};
 ghost use Rattle.gdl.specs.Game.{Game};
 ghost use Rattle.session.specs.Shape.{flagFits, below, inGrid, choiceWithin, shaped, limitsOf};
-ghost use Rattle.session.specs.Runs.{EightIf, Fitting};
+ghost use Rattle.session.specs.Runs.{Bounds, RunIf, Fitting};
 
 // How much of each thing a game has.
 pub struct Limits {
@@ -43,40 +42,49 @@ fn flag_fits(x: u8, i: usize, width: usize, rows: u16, columns: u16) -> bool
     false
 }
 
-// Whether eight flags are 0, by one sum: no branch for each.
-fn none_set(a: u8, b: u8, c: u8, d: u8, e: u8, f: u8, g: u8, h: u8) -> bool
-    ensures { λ r. ⌜ r ≡ eqb (a + b + c + d + e + f + g + h) 0 ⌝ }
+fn larger(a: u8, b: u8) -> u8
+    ensures { λ r. ⌜ (a ≤ r) × (b ≤ r) ⌝ }
 {
-    a as u16 + b as u16 + c as u16 + d as u16 + e as u16 + f as u16 + g as u16 + h as u16 == 0
+    if a < b {
+        return b;
+    }
+    a
 }
 
-// Whether there are eight flags from place i on, all of them 0.
-fn eight_unset(flags: &[u8], i: usize) -> bool
-    requires { ⌜ i < length (now flags) ⌝ }
-    ensures { λ r. ⌜ EightIf (now (flags .entry)) i r ⌝ }
+// A number that no flag is above: 0 says that all are 0. One turn a flag, without an exit, so that many are read at once.
+fn highest(flags: &[u8]) -> u8
+    ensures { λ r. ⌜ Bounds (now (flags .entry)) (length (now (flags .entry))) r ⌝ }
 {
-    if flags.len() - i < 8 {
+    let mut top: u8 = 0;
+    let mut k: usize = 0;
+    while k < flags.len() {
+        top = larger(top, flags[k]);
+        k += 1;
+    }
+    top
+}
+
+// Whether a run of 64 flags starts at place i, all of them 0. Only multiples of 64 start one, so that no flag is read for many runs.
+fn run_unset(flags: &[u8], i: usize) -> bool
+    requires { ⌜ i < length (now flags) ⌝ }
+    ensures { λ r. ⌜ RunIf (now (flags .entry)) i r ⌝ }
+{
+    if i % 64 != 0 {
         return false;
     }
-    none_set(
-        flags[i],
-        flags[i + 1],
-        flags[i + 2],
-        flags[i + 3],
-        flags[i + 4],
-        flags[i + 5],
-        flags[i + 6],
-        flags[i + 7],
-    )
+    if flags.len() - i < 64 {
+        return false;
+    }
+    highest(&flags[i..i + 64]) == 0
 }
 
-// How many flags from place i on were found to fit: eight where eight are 0, which is nearly everywhere, else one, or none.
+// How many flags from place i on were found to fit: 64 where a run of them is 0, which is nearly everywhere, else one, or none.
 fn fitting(flags: &[u8], i: usize, width: usize, rows: u16, columns: u16) -> usize
     requires { ⌜ (0 < width) × (i < length (now flags)) ⌝ }
     ensures { λ n. ⌜ Fitting (flagFits (inGrid width rows columns)) (now (flags .entry)) i n ⌝ }
 {
-    if eight_unset(flags, i) {
-        return 8;
+    if run_unset(flags, i) {
+        return 64;
     }
     if flag_fits(flags[i], i, width, rows, columns) {
         return 1;

@@ -1,11 +1,11 @@
--- Eight flags of 0 fit, and else one is asked by its place.
+-- A run of flags that are 0 fits, and else one is asked by its place.
 use borrow.Author.Needs.{needs}
 use Rattle.session.proofs.Fits.{runs}
 use Rattle.session.proofs.shape.fitting.Statement.{statement}
 use Rattle.session.proofs.shape.fitting.Tie as tie
 
-eight-unset-requires : tie.Need-eight-unset-requires
-eight-unset-requires c κs = search needs
+run-unset-requires : tie.Need-run-unset-requires
+run-unset-requires c κs = search needs
 
 returns : tie.Need-returns
 returns c = search (needs, runs)
@@ -26,7 +26,7 @@ pub fitting-spec : {M : Type 1} → statement M
 fitting-spec =
     tie.close
     (tie.spec
-    eight-unset-requires
+    run-unset-requires
     returns
     shared-slice-read-flag-fits
     flag-fits-requires

@@ -1,4 +1,4 @@
--- The flags before i passed; each turn passes one or eight more.
+-- The flags before i passed; each turn passes one or 64 more.
 use Prim.Native.Nat.{_-_}
 use lib.ListN.{length}
 use borrow.Author.Needs.{needs}
