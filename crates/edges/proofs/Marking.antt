@@ -14,7 +14,8 @@ use borrow.Author.Count.{below-more}
 use Rattle.gdl.specs.Flags.{bit, count}
 use Rattle.gdl.proofs.Closing.{count-length}
 use Rattle.edges.specs.Graph.{startOf}
-use Rattle.edges.specs.Marks.{noMarks, Markable, Marked, Taken, Done, Waits, Work, Gathered}
+use Rattle.edges.specs.Marks.{noMarks, Markable, Marked, Taken, Done, Waits, Work, Gathering, Gathered}
+use Rattle.edges.specs.Closure.{SeedsBelow}
 use Rattle.edges.proofs.Setting.{after-set, blank-at}
 
 count-set : (m : List ℕ) (i : ℕ) → i < length m → (getD m i 0 ≡ 1 → ⊥) → count (set m i 1) ≡ suc (count m)
@@ -116,8 +117,8 @@ pub no-marks-long : length noMarks ≡ 1024
 unfolding noMarks
 no-marks-long = length-replicate {A = ℕ} 1024 0
 
-pub gather-starts : (seeds m q : List ℕ) → (m ≡ noMarks) × (q ≡ noMarks) → Gathered seeds m q 0 0
-gather-starts seeds m q (em, eq) = rw (em, eq) (record {
+pub gather-starts : (seeds m q : List ℕ) (size : ℕ) → Gathering seeds size m q → Gathered seeds m q 0 0
+gather-starts seeds m q size g = rw (g .unmarked, g .unqueued) (record {
   work = λ from to. record {
     each = λ p e. absurd (omega (arith, unset p));
     marked = λ j lt. absurd (not-suc-le-zero lt);
@@ -132,7 +133,10 @@ gather-starts seeds m q (em, eq) = rw (em, eq) (record {
   all = λ j lt. absurd (not-suc-le-zero lt);
 })
 
-module _ (seeds m q : List ℕ) (p n : ℕ) (i : Gathered seeds m q p n) (lt : p < 1024) where
+module _ (seeds m q : List ℕ) (p n size : ℕ) (i : Gathered seeds m q p n) (below : p < size) (b : SeedsBelow seeds size) where
+  lt : p < 1024
+  lt = omega (arith, b .few)
+
   pub gather-markable : Markable p m n
   gather-markable = markable p m q 0 n lt (i .work [] [])
 
@@ -150,7 +154,7 @@ module _ (seeds m q : List ℕ) (p n : ℕ) (i : Gathered seeds m q p n) (lt : p
     all = below-more (λ (j : ℕ). getD seeds j 0 ≡ 1 → getD m j 0 ≡ 1) p (i .all) (λ g. absurd (ne g));
   })
 
-pub gather-done : (seeds m q : List ℕ) (p n : ℕ) → Gathered seeds m q p n → 1024 ≤ p → Gathered seeds m q 1024 n
-gather-done seeds m q p n i le = record { work = i .work; given = i .given; all = λ j lt. i .all j (omega arith) }
+pub gather-done : (seeds m q : List ℕ) (p n size : ℕ) → Gathered seeds m q p n → size ≤ p → Gathered seeds m q size n
+gather-done seeds m q p n size i le = record { work = i .work; given = i .given; all = λ j lt. i .all j (omega arith) }
 
 pub ruleset gatherings = (gather-starts, gather-markable, gather-more, gather-done)

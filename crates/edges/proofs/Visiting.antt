@@ -6,13 +6,13 @@ use Prim.Native.Nat.{ℕ, suc, _+_, _*_, _-_, _<_, _≤_}
 use native.Mathlib.Omega.{arith}
 use native.Mathlib.Decide.{ℕ-discrete}
 use lib.Dec.{eqb→eq}
-use lib.ListN.{length, getD, List·getD-eq-default}
+use lib.ListN.{length, getD}
 use mir.Syntax.{w64}
 use mir.Val.{Fits}
 use Rattle.gdl.proofs.Closing.{count-length}
 use Rattle.gdl.proofs.Tests.{eq→eqb}
 use Rattle.edges.specs.Graph.{startOf, endOf}
-use Rattle.edges.specs.Closure.{ClosedBack}
+use Rattle.edges.specs.Closure.{SeedsBelow, ClosedBack}
 use Rattle.edges.specs.Uses.{FirstUse}
 use Rattle.edges.specs.Marks.{Markable, Marked, Work, Grew, Visit, Visited, Gathered}
 use Rattle.edges.proofs.Marking.{Kept, kept, markable}
@@ -135,10 +135,10 @@ pub record Closing (from to seeds m q : List ℕ) (at n : ℕ) : Type 0 where
   pub work : Work from to m q at n
 
 module _ (from to seeds : List ℕ) where
-  pub closing-starts : (m q : List ℕ) (n : ℕ) → length seeds ≡ 1024 → Gathered seeds m q 1024 n → Closing from to seeds m q 0 n
-  closing-starts m q n long g = record {
+  pub closing-starts : (m q : List ℕ) (n size : ℕ) → SeedsBelow seeds size → Gathered seeds m q size n → Closing from to seeds m q 0 n
+  closing-starts m q n size s g = record {
     grew = record {
-      keeps = λ j h. g .all j (let no : 1024 ≤ j → ⊥ = λ ge. omega (arith, List·getD-eq-default seeds 0 {n = j} (omega arith)) in omega arith) h;
+      keeps = λ j h. g .all j (let no : size ≤ j → ⊥ = λ ge. s .past j ge h in omega arith) h;
       least = λ Y b f j h. f j (g .given j h);
     };
     work = g .work from to;

@@ -8,7 +8,7 @@ use lib.ListN.{length, getD, set, replicate}
 use Rattle.gdl.specs.Sets.{Atoms}
 use Rattle.gdl.specs.Flags.{count}
 use Rattle.edges.specs.Graph.{startOf, endOf}
-use Rattle.edges.specs.Closure.{Backward}
+use Rattle.edges.specs.Closure.{Backward, SeedsBelow}
 use Rattle.edges.specs.Uses.{Index}
 
 -- no node is marked, and none queued
@@ -82,6 +82,12 @@ pub record Visit (from to first next m q : List ℕ) (at n : ℕ) : Type 0 where
 pub record Visited (from to m q : List ℕ) (at : ℕ) (m′ q′ : List ℕ) (n′ : ℕ) : Type 0 where
   pub grew : Grew from to m m′
   pub work : Work from to m′ q′ (at + 1) n′
+
+-- seeds below `size`, and nothing marked or queued yet
+pub record Gathering (seeds : List ℕ) (size : ℕ) (m q : List ℕ) : Type 0 where
+  pub below : SeedsBelow seeds size
+  pub unmarked : m ≡ noMarks
+  pub unqueued : q ≡ noMarks
 
 -- the seeds below p are marked and queued, and nothing else
 pub record Gathered (seeds m q : List ℕ) (p n : ℕ) : Type 0 where

@@ -1,9 +1,8 @@
 // The closure: marks on nodes, and a queue in which each marked node stands once.
 ghost use mathlib.Core.Path.{_≡_};
-ghost use lib.ListN.{length};
-ghost use Rattle.edges.specs.Closure.{ClosedBack};
+ghost use Rattle.edges.specs.Closure.{SeedsBelow, ClosedBack};
 ghost use Rattle.edges.specs.Uses.{Index};
-ghost use Rattle.edges.specs.Marks.{noMarks, Markable, Marked, Taken, Gathered, Visit, Visited};
+ghost use Rattle.edges.specs.Marks.{noMarks, Markable, Marked, Taken, Gathering, Gathered, Visit, Visited};
 use super::wide;
 
 // No node is marked.
@@ -43,14 +42,14 @@ fn take(seed: u8, p: usize, marks: &mut [u8; 1024], queue: &mut [u16; 1024], n: 
     n
 }
 
-// Marks all seeds.
-fn gather(seeds: &[u8; 1024], marks: &mut [u8; 1024], queue: &mut [u16; 1024]) -> usize
-    requires { ⌜ (now marks ≡ noMarks) × (now queue ≡ noMarks) ⌝ }
-    ensures { λ r. ⌜ Gathered (now (seeds .entry)) (now (marks .exit)) (now (queue .exit)) 1024 r ⌝ }
+// Marks all seeds. They stand below `size`.
+fn gather(seeds: &[u8; 1024], size: usize, marks: &mut [u8; 1024], queue: &mut [u16; 1024]) -> usize
+    requires { ⌜ Gathering (now seeds) size (now marks) (now queue) ⌝ }
+    ensures { λ r. ⌜ Gathered (now (seeds .entry)) (now (marks .exit)) (now (queue .exit)) size r ⌝ }
 {
     let mut n: usize = 0;
     let mut p: usize = 0;
-    while p < 1024 {
+    while p < size {
         n = take(seeds[p], p, marks, queue, n);
         p += 1;
     }
@@ -82,7 +81,7 @@ fn visit(
     out
 }
 
-// The seeds and every node that depends on one. A node is queued when it is marked first: at most 1,024 turns, and each edge is
+// The seeds, which stand below `size`, and every node that depends on one. A node is queued when it is marked first: at most 1,024 turns, and each edge is
 // followed in at most one of them.
 pub fn dependents(
     from: &[u16],
@@ -90,13 +89,14 @@ pub fn dependents(
     first: &[u16; 1024],
     next: &[u16; 9216],
     seeds: &[u8; 1024],
+    size: usize,
 ) -> [u8; 1024]
-    requires { ⌜ Index (now from) (now to) (now first) (now next) × (length (now seeds) ≡ 1024) ⌝ }
+    requires { ⌜ Index (now from) (now to) (now first) (now next) × SeedsBelow (now seeds) size ⌝ }
     ensures { λ r. ⌜ ClosedBack (now (from .entry)) (now (to .entry)) (now (seeds .entry)) r ⌝ }
 {
     let mut marks = no_marks();
     let mut queue = no_queue();
-    let gathered = gather(seeds, &mut marks, &mut queue);
+    let gathered = gather(seeds, size, &mut marks, &mut queue);
     let mut n = gathered;
     let mut at: usize = 0;
     while at < n {

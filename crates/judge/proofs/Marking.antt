@@ -1,22 +1,21 @@
 -- Laws of the search for an atom of these kinds that depends on one of those.
-use mathlib.Core.Path.{_≡_, refl, sym, ap, ap₂, subst, _∙_}
+use mathlib.Core.Path.{_≡_, refl, sym, ap, subst, _∙_}
 use mathlib.Core.Logic.{_⊎_, inl, inr, _↔_}
 use mathlib.Core.Bool.{Bool, true, false, _&&_}
-use mathlib.Core.List.{List, [], _∷_, _++_, map}
+use mathlib.Core.List.{List, [], map}
 use Prim.Native.Nat.{ℕ, zero, suc, _+_, _≤_, _<_}
 use native.Mathlib.Nat.{not-suc-le-zero}
-use native.Mathlib.Numerals.{add-one}
 use native.Mathlib.Omega.{arith}
 use native.Mathlib.Decide.{ℕ-discrete}
 use lib.Dec.{T, eqb→eq}
 use lib.ListN.{length, getD, set, length-map, length-set, length-replicate}
 use lib.Seq.{getD-set-same, getD-set-other}
-use Rattle.gdl.specs.Game.{Literal, pos, neg, Clause, Game, kindOf}
+use Rattle.gdl.specs.Game.{Game, kindOf}
 use Rattle.gdl.specs.Flags.{on, bit, blank}
 use Rattle.gdl.specs.Graph.{itself, Depends}
 use Rattle.gdl.proofs.Tests.{and-left, and-right, and-both, eq→eqb}
 use Rattle.edges.specs.Graph.{Drawn}
-use Rattle.edges.specs.Closure.{ClosedBack}
+use Rattle.edges.specs.Closure.{SeedsBelow, ClosedBack}
 use Rattle.edges.specs.Uses.{noUses, noNexts, Unindexed, Indexed}
 use Rattle.edges.specs.Marks.{noMarks}
 use Rattle.edges.proofs.Drawing.{clauses-drawn, graph-sized}
@@ -107,6 +106,9 @@ module _ (kinds owners literals first next : List ℕ) (a : EdgesShaped kinds ow
 
 pub ruleset indexing = (uses-unindexed, uses-indexed)
 
+pub seeds-below : (kinds owners literals those seeds : List ℕ) → EdgesShaped kinds owners literals → Sown kinds those (length kinds) seeds → SeedsBelow seeds (length kinds)
+seeds-below kinds owners literals those seeds a s = record { few = a .atoms; past = λ p le one. omega (arith, s .past p le) }
+
 pub seeds-marked : (kinds owners literals those seeds marks : List ℕ) → EdgesShaped kinds owners literals → Sown kinds those (length kinds) seeds → ClosedBack owners literals seeds marks
     → MarksOf (HeldEdges kinds owners literals) those marks
 seeds-marked kinds owners literals those seeds marks a s c = record { rests = λ G h p. (λ t. there G h p (closed G h p .0 t), λ r. closed G h p .1 (back G h p r)) }
@@ -158,4 +160,4 @@ module _ (kinds owners literals these those : List ℕ) where
       pub lean-tells : (b : Bool) → b ≡ (oneOf these (getD kinds p 0) && on marks p) → Tested (HeldEdges kinds owners literals) (Leans these those) p b
       lean-tells b e = record { tells = λ G h. told G h b (e ∙ ap (λ (k : ℕ). oneOf these k && on marks p) (kind-is G h)) }
 
-pub ruleset leaning = (sown-start, sown-more, sown-all, mark-both, mark-none, seeds-marked, leaning-atom, asked-mark, lean-tells)
+pub ruleset leaning = (sown-start, sown-more, sown-all, mark-both, mark-none, seeds-below, seeds-marked, leaning-atom, asked-mark, lean-tells)

@@ -46,7 +46,7 @@ fn marks_of(
     ensures { λ r. ⌜ MarksOf (HeldEdges (now (kinds .entry)) (now (owners .entry)) (now (literals .entry))) (now (those .entry)) r ⌝ }
 {
     let seeds = seeds_of(kinds, those);
-    edges::marks::dependents(owners, literals, first, next, &seeds)
+    edges::marks::dependents(owners, literals, first, next, &seeds, kinds.len())
 }
 
 // Whether atom p is marked and of one of these kinds.

@@ -16,7 +16,7 @@ use Rattle.gdl.specs.Flags.{on, bit}
 use Rattle.gdl.proofs.Tests.{eq→eqb}
 use Rattle.gdl.proofs.Linking.{Leads, toBody, toNext}
 use Rattle.edges.specs.Graph.{startOf, endOf}
-use Rattle.edges.specs.Closure.{Seeded, ClosedBack}
+use Rattle.edges.specs.Closure.{SeedsBelow, Seeded, ClosedBack}
 use Rattle.reach.specs.Promise.{Laid, Ready, Reached}
 use Rattle.reach.specs.Seeds.{Seeds}
 use Rattle.reach.specs.Links.{byLiteral, byFluent, BringsIn, Link, Linked, Readable}
@@ -45,8 +45,8 @@ module _ {kinds firsts literals owners : List ℕ} (s : Readable kinds firsts li
   brings-atom (byLiteral i lt) = (s .graph .starts i lt, s .graph .ends i lt)
   brings-atom (byFluent p q lt f) = (f .trueAt .within, lt)
 
-  links-seeded : (seeds : List ℕ) → length seeds ≡ 1024 → Seeded (take n from) (take n to) seeds
-  links-seeded seeds long = record {
+  links-seeded : (seeds : List ℕ) (size : ℕ) → SeedsBelow seeds size → Seeded (take n from) (take n to) seeds size
+  links-seeded seeds size below = record {
     sized = record {
       graph = record {
         same = from-count ∙ sym to-count;
@@ -55,7 +55,7 @@ module _ {kinds firsts literals owners : List ℕ} (s : Readable kinds firsts li
       };
       edges = omega (arith, many, to-count);
     };
-    seeds-long = long;
+    below = below;
   }
 
   module _ {seeds r : List ℕ} (x : ClosedBack (take n from) (take n to) seeds r) where
@@ -104,8 +104,8 @@ module _ (kinds firsts literals owners : List ℕ) (w : Ready kinds firsts liter
   reach-to = omega (arith, many (ready-readable kinds firsts literals owners w) l, l .to-long)
 
   module _ (seat : ℕ) (seeds : List ℕ) (f : Seeds kinds firsts seat (length kinds) seeds) where
-    pub reach-seeded : Seeded (take (n - 0) from) (take (n - 0) to) seeds
-    reach-seeded = rw sub-zero (links-seeded (ready-readable kinds firsts literals owners w) l seeds (f .long))
+    pub reach-seeded : Seeded (take (n - 0) from) (take (n - 0) to) seeds (length kinds)
+    reach-seeded = rw sub-zero (links-seeded (ready-readable kinds firsts literals owners w) l seeds (length kinds) (record { few = ready-readable kinds firsts literals owners w .fluents .columns .few; past = λ p le one. omega (arith, f .after p le) }))
 
     pub reach-reached : (r : List ℕ) → ClosedBack (take (n - 0) from) (take (n - 0) to) seeds r → (G : Game) → Laid G kinds firsts literals owners → Reached G seat r
     reach-reached r x₀ G laid = record {

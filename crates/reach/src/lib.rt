@@ -31,5 +31,5 @@ pub fn reach_of(
     let mut from = links::no_links();
     let mut to = links::no_links();
     let many = links::links_of(kinds, firsts, literals, owners, &mut from, &mut to);
-    edges::close_back(&from[0..many], &to[0..many], &seeds)
+    edges::close_back(&from[0..many], &to[0..many], &seeds, kinds.len())
 }

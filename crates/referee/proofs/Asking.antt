@@ -1,14 +1,12 @@
 -- From an accepted table that was consulted to what the calls ask: the game, its limits, and the readings of its marks.
-use mathlib.Core.Path.{_≡_, refl, sym, ap, _∙_}
-use mathlib.Core.Bool.{Bool, true, false, not, _&&_}
+use mathlib.Core.Path.{_≡_, refl, ap, _∙_}
 use mathlib.Core.List.{List, [], _∷_, map}
-use Prim.Native.Nat.{ℕ, suc, _+_, _*_, _≤_, _<_}
+use Prim.Native.Nat.{ℕ, suc, _+_, _*_, _<_}
 use native.Mathlib.Omega.{arith}
 use lib.Dec.{eqb}
-use lib.ListN.{length, getD, take}
-use borrow.Author.Tests.{ne-eqb, eq-eqb, not-true, not-false}
+use lib.ListN.{getD}
 use Rattle.refusals.specs.declared.Refusal.{Refusal}
-use Rattle.gdl.specs.Game.{Atom, Game, legalKind, terminalKind, goalKind}
+use Rattle.gdl.specs.Game.{Atom, Game}
 use Rattle.gdl.specs.Flags.{on, bit, blank}
 use Rattle.gdl.specs.Truth.{isFact}
 use Rattle.gdl.specs.Computed.{did, facts, model}
@@ -17,8 +15,7 @@ use Rattle.rules.specs.Verdict.{Verdict, unfit, fit}
 use Rattle.rules.specs.Judged.{judge}
 use Rattle.rules.specs.Accepted.{Accepted}
 use Rattle.rules.proofs.Accepting.{accepted}
-use Rattle.session.specs.Shape.{shaped, limitsOf}
-use Rattle.session.specs.declared.Session.{Session}
+use Rattle.session.specs.Shape.{limitsOf}
 use Rattle.session.specs.declared.shape.Limits.{Limits}
 use Rattle.truth.specs.Marks.{marksOf}
 use Rattle.verdict.specs.Consulted.{Consulted, found, foundIn, Fit, Accepts, Learns}

@@ -1,11 +1,11 @@
 -- The tests of hidden on an accepted table that was traced, each as the outcome that the code found.
-use mathlib.Core.Path.{_≡_, refl, sym, ap, subst, _∙_}
-use mathlib.Core.Bool.{Bool, true, false, not}
+use mathlib.Core.Path.{_≡_, sym, ap, subst, _∙_}
+use mathlib.Core.Bool.{true, false, not}
 use mathlib.Core.List.{List, []}
 use Prim.Native.Nat.{ℕ, _+_, _*_, _≤_, _<_}
 use native.Mathlib.Omega.{arith}
 use lib.Dec.{eqb, leb}
-use lib.ListN.{length, getD}
+use lib.ListN.{getD}
 use borrow.Author.Tests.{le-leb, lt-leb, ne-eqb, eq-eqb}
 use Rattle.refusals.specs.declared.Refusal.{Refusal}
 use Rattle.refusals.specs.declared.Refusal.the-variants.{Success}
@@ -13,7 +13,7 @@ use Rattle.gdl.specs.Game.{Game}
 use Rattle.gdl.specs.Flags.{on, bit}
 use Rattle.gdl.specs.Computed.{reachOf, hidden}
 use Rattle.rules.specs.Accepted.{Accepted}
-use Rattle.rules.specs.Verdict.{Verdict, unfit, fit}
+use Rattle.rules.specs.Verdict.{unfit, fit}
 use Rattle.rules.specs.Judged.{judge}
 use Rattle.rules.proofs.Accepting.{accepted}
 use Rattle.session.specs.declared.shape.Limits.{Limits}

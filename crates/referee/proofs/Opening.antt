@@ -2,31 +2,30 @@
 use mathlib.Core.Path.{_≡_, refl, sym, ap, subst, _∙_}
 use mathlib.Core.Bool.{Bool, _&&_}
 use mathlib.Core.List.{List, []}
-use Prim.Native.Nat.{ℕ, _+_, _*_, _≤_, _<_}
+use Prim.Native.Nat.{ℕ, _+_, _≤_, _<_}
 use native.Mathlib.Omega.{arith}
-use native.Mathlib.Numerals.{add-one}
 use lib.Dec.{T, lt→ltb, ltb}
 use lib.ListN.{length, getD, set, take, length-set, length-replicate}
 use lib.Seq.{ext-getD, getD-set-same, getD-set-other, length-take-le, getD-take}
 use native.Mathlib.Decide.{ℕ-discrete}
 use Rattle.refusals.specs.declared.Refusal.{Refusal}
 use Rattle.refusals.specs.declared.Refusal.the-variants.{Success}
-use Rattle.gdl.specs.Game.{Game, initKind, nextKind}
+use Rattle.gdl.specs.Game.{Game, initKind}
 use Rattle.gdl.specs.Sets.{Atoms}
 use Rattle.gdl.specs.Flags.{on, bit, blank}
-use Rattle.gdl.specs.Lists.{flagsFrom, flags}
+use Rattle.gdl.specs.Lists.{flags}
 use Rattle.gdl.specs.Computed.{model, anyOf}
-use Rattle.gdl.proofs.Walks.{flags-same, flags-length, flag-is}
-use Rattle.table.specs.Says.{blankHeader, headerOf}
+use Rattle.gdl.proofs.Walks.{flags-length, flag-is}
+use Rattle.table.specs.Says.{blankHeader}
 use Rattle.rules.specs.Verdict.{Verdict, unfit, fit}
 use Rattle.rules.specs.Judged.{judge}
-use Rattle.rules.specs.Limits.{Limits, firstEnd, secondEnd}
+use Rattle.rules.specs.Limits.{firstEnd, secondEnd}
 use Rattle.rules.specs.Accepted.{Accepted}
 use Rattle.rules.proofs.Accepting.{accepted}
 use Rattle.session.specs.Shape.{fluentFits, blankSession}
 use Rattle.session.specs.declared.Session.{Session}
 use Rattle.truth.specs.Marks.{isAt, marksOf}
-use Rattle.verdict.specs.Consulted.{Consulted, examined, foundIn, Accepts}
+use Rattle.verdict.specs.Consulted.{Consulted, examined, Accepts}
 use Rattle.verdict.specs.declared.Examined.{Examined}
 use Rattle.calls.specs.declared.Claimed.{Claimed}
 use Rattle.calls.specs.declared.Moved.{Moved}

@@ -2,15 +2,14 @@
 use mathlib.Core.Path.{_≡_, refl, sym, ap, subst, _∙_}
 use mathlib.Core.Bool.{Bool, true, false, not, _&&_}
 use mathlib.Core.List.{List, []}
-use Prim.Native.Nat.{ℕ, zero, suc, _+_, _-_, _*_, _/_, _%_, _≤_, _<_}
+use Prim.Native.Nat.{ℕ, zero, suc, _+_, _-_, _/_, _%_, _≤_, _<_}
 use native.Mathlib.Omega.{arith}
 use native.Mathlib.Decide.{ℕ-discrete}
 use native.Mathlib.Numerals.{add-one}
 use lib.Dec.{T, eqb, ltb, lt→ltb}
 use lib.ListN.{getD, take}
-use Rattle.refusals.specs.Refusal.{numberOf}
 use Rattle.refusals.specs.declared.Refusal.{Refusal}
-use Rattle.refusals.specs.Ruling.{Found, nowhere, found, lowest}
+use Rattle.refusals.specs.Ruling.{nowhere, found, lowest}
 use Rattle.gdl.specs.Game.{Game, nextKind, seesKind}
 use Rattle.gdl.specs.Sets.{Atoms}
 use Rattle.gdl.specs.Flags.{on, blank}
@@ -30,7 +29,6 @@ use Rattle.truth.specs.Marks.{isAt, marksOf}
 use Rattle.verdict.specs.Consulted.{Consulted, foundIn, Accepts}
 use Rattle.calls.specs.Position.{atomIn, moved, played}
 use Rattle.calls.specs.Calls.{unchosen, illegal, play}
-use Rattle.referee.specs.Asked.{Asked}
 use Rattle.calls.specs.declared.Moved.{Moved}
 use Rattle.referee.specs.Lowest.{LowestOr, Chosen, lacks, wrongs}
 use Rattle.referee.proofs.Reading.{wide-at, fits, only-fitting}

@@ -1,14 +1,14 @@
 -- The message of an accepted table that was consulted: its numbers are those that the marks give.
-use mathlib.Core.Path.{_≡_, refl, sym, ap, ap₂, subst, _∙_}
+use mathlib.Core.Path.{_≡_, sym, ap, subst, _∙_}
 use mathlib.Core.Bool.{Bool, true, false, not, cond}
 use mathlib.Core.List.{List, [], _∷_, _++_, append-assoc}
 use Prim.Native.Nat.{ℕ, _+_, _*_, _≤_, _<_}
 use native.Mathlib.Omega.{arith}
 use lib.Dec.{T, eqb, leb, ltb}
 use lib.ListN.{length, getD}
-use borrow.Author.Tests.{lt-ltb, le-ltb}
+use borrow.Author.Tests.{le-ltb}
 use Rattle.refusals.specs.declared.Refusal.{Refusal}
-use Rattle.refusals.specs.declared.Refusal.the-variants.{Success, RoomTooShort}
+use Rattle.refusals.specs.declared.Refusal.the-variants.{Success}
 use Rattle.numbers.specs.Writing.{written}
 use Rattle.gdl.specs.Game.{Game}
 use Rattle.gdl.specs.Flags.{on, bit, blank}

@@ -1,30 +1,29 @@
 -- The tests of model and message on an accepted table that was consulted, and what they write.
 use mathlib.Core.Path.{_≡_, refl, sym, ap, ap₂, subst, _∙_}
-use mathlib.Core.Bool.{Bool, true, false, not, _&&_, cond}
-use mathlib.Core.List.{List, [], _∷_, _++_, append-assoc}
-use Prim.Native.Nat.{ℕ, _+_, _-_, _*_, _≤_, _<_}
+use mathlib.Core.Bool.{Bool, true, false, not, _&&_}
+use mathlib.Core.List.{List, [], _++_, append-assoc}
+use Prim.Native.Nat.{ℕ, _+_, _-_, _≤_, _<_}
 use native.Mathlib.Omega.{arith}
 use native.Mathlib.Numerals.{add-one}
-use lib.Dec.{eqb, leb, ltb}
-use lib.ListN.{length, getD, set, take, drop, length-set, length-append, length-replicate}
+use lib.Dec.{ltb}
+use lib.ListN.{length, getD, set, take, drop, length-set, length-append}
 use lib.Seq.{take-suc, drop-cons, set-at, length-take-le, take-append-seam}
 use borrow.Author.Tests.{lt-ltb, le-ltb, not-true, not-false}
 use Rattle.refusals.specs.declared.Refusal.{Refusal}
 use Rattle.refusals.specs.declared.Refusal.the-variants.{Success, BadShape, RoomTooShort}
 use Rattle.gdl.specs.Game.{Game}
-use Rattle.gdl.specs.Flags.{on, bit, blank}
-use Rattle.gdl.specs.Lists.{those, every}
+use Rattle.gdl.specs.Flags.{on, blank}
+use Rattle.gdl.specs.Lists.{every}
 use Rattle.gdl.specs.Computed.{model}
 use Rattle.gdl.proofs.Modelled.{model-length}
 use Rattle.rules.specs.Accepted.{Accepted}
 use Rattle.rules.proofs.Accepting.{accepted}
-use Rattle.rules.specs.Verdict.{Verdict, unfit, fit}
+use Rattle.rules.specs.Verdict.{unfit, fit}
 use Rattle.rules.specs.Judged.{judge}
-use Rattle.session.specs.Shape.{flagFits, below, choiceWithin, positionShaped, choicesShaped, limitsOf}
+use Rattle.session.specs.Shape.{flagFits, below, choiceWithin, positionShaped, choicesShaped}
 use Rattle.session.specs.declared.shape.Limits.{Limits}
 use Rattle.verdict.specs.Consulted.{Consulted, foundIn, Accepts}
 use Rattle.calls.specs.Position.{moved}
-use Rattle.referee.specs.Asked.{Asked}
 use Rattle.calls.specs.Calls.{truth}
 use Rattle.calls.specs.Promises.{ModelPromise}
 use Rattle.calls.proofs.Meeting.{model-meets}
@@ -125,9 +124,3 @@ module _ (t pos ch room : List ℕ) where
 
   pub model-accepted : (c : Consulted) → Accepts (judge t) (λ G. model G pos ch) c → (r : Refusal) (room′ : List ℕ) → ((G : Game) → Accepted G → c ≡ foundIn G (model G pos ch) → (r, room′) ≡ truth (fit G) pos ch room) → ModelPromise (judge t) pos ch room (r, room′)
   model-accepted c a r room′ f = promise (r, room′) (rw (a .verdict) (f (a .game) (accepted t (a .game) (a .verdict)) (a .is)))
-
-pub flags-1024 : {c : Consulted} {pos ch : List ℕ} → Asked c pos ch → length (c .flags) ≡ 1024
-flags-1024 {c} {pos} {ch} a =
-    let G : Game = a .game in
-    let n : ℕ = 1024 - length (a .game .atoms) in
-    ap (λ (x : Consulted). length (x .flags)) (a .is) ∙ (length-append (model G pos ch) (blank n) ∙ omega (arith, model-length G (a .accepted .valid) pos ch, length-replicate {A = ℕ} n 0, a .accepted .limits .atoms))

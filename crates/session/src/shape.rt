@@ -1,12 +1,12 @@
 // Which records are well shaped.
 use crate::Session;
 ghost use mathlib.Core.Path.{_≡_};
-ghost use Prim.Native.Nat.{_<_};
+ghost use Prim.Native.Nat.{_<_, _≤_};
 ghost use Rattle.gdl.specs.Lists.{every};
-ghost use lib.Dec.{leb};
+ghost use lib.ListN.{length};
 ghost use Rattle.gdl.specs.Game.{Game};
-ghost use Rattle.gdl.specs.Flags.{bit};
 ghost use Rattle.session.specs.Shape.{flagFits, below, inGrid, choiceWithin, shaped, limitsOf};
+ghost use Rattle.session.specs.Runs.{Bounds, RunIf, Fitting};
 
 // How much of each thing a game has.
 pub struct Limits {
@@ -27,8 +27,8 @@ fn in_grid(i: usize, width: usize, rows: u16, columns: u16) -> bool
     false
 }
 
-// Whether a flag at place i is at most 1 where it may be set, and else 0. Nearly all flags are 0, which fits anywhere: asked first, since the
-// place costs a division.
+// Whether a flag at place i is at most 1 where it may be set, and else 0. A flag of 0 fits anywhere: asked first, since the place costs a
+// division.
 fn flag_fits(x: u8, i: usize, width: usize, rows: u16, columns: u16) -> bool
     requires { ⌜ 0 < width ⌝ }
     ensures { λ r. ⌜ r ≡ flagFits (inGrid width rows columns) i x ⌝ }
@@ -42,6 +42,56 @@ fn flag_fits(x: u8, i: usize, width: usize, rows: u16, columns: u16) -> bool
     false
 }
 
+fn larger(a: u8, b: u8) -> u8
+    ensures { λ r. ⌜ (a ≤ r) × (b ≤ r) ⌝ }
+{
+    if a < b {
+        return b;
+    }
+    a
+}
+
+// A number that no flag is above: 0 says that all are 0. One turn a flag, without an exit, so that many are read at once.
+fn highest(flags: &[u8]) -> u8
+    ensures { λ r. ⌜ Bounds (now (flags .entry)) (length (now (flags .entry))) r ⌝ }
+{
+    let mut top: u8 = 0;
+    let mut k: usize = 0;
+    while k < flags.len() {
+        top = larger(top, flags[k]);
+        k += 1;
+    }
+    top
+}
+
+// Whether a run of 64 flags starts at place i, all of them 0. Only multiples of 64 start one, so that no flag is read for many runs.
+fn run_unset(flags: &[u8], i: usize) -> bool
+    requires { ⌜ i < length (now flags) ⌝ }
+    ensures { λ r. ⌜ RunIf (now (flags .entry)) i r ⌝ }
+{
+    if i % 64 != 0 {
+        return false;
+    }
+    if flags.len() - i < 64 {
+        return false;
+    }
+    highest(&flags[i..i + 64]) == 0
+}
+
+// How many flags from place i on were found to fit: 64 where a run of them is 0, which is nearly everywhere, else one, or none.
+fn fitting(flags: &[u8], i: usize, width: usize, rows: u16, columns: u16) -> usize
+    requires { ⌜ (0 < width) × (i < length (now flags)) ⌝ }
+    ensures { λ n. ⌜ Fitting (flagFits (inGrid width rows columns)) (now (flags .entry)) i n ⌝ }
+{
+    if run_unset(flags, i) {
+        return 64;
+    }
+    if flag_fits(flags[i], i, width, rows, columns) {
+        return 1;
+    }
+    0
+}
+
 // Whether flags are 0 or 1, and set only within a grid.
 fn flags_fit(flags: &[u8], width: usize, rows: u16, columns: u16) -> bool
     requires { ⌜ 0 < width ⌝ }
@@ -49,10 +99,11 @@ fn flags_fit(flags: &[u8], width: usize, rows: u16, columns: u16) -> bool
 {
     let mut i: usize = 0;
     while i < flags.len() {
-        if !flag_fits(flags[i], i, width, rows, columns) {
+        let n = fitting(flags, i, width, rows, columns);
+        if n == 0 {
             return false;
         }
-        i += 1;
+        i += n;
     }
     true
 }

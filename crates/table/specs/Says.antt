@@ -1,8 +1,8 @@
 -- What the code's answers say: each as the reading that it is, or as arrays that hold what was read.
-use Prim.Native.Nat.{ℕ, _+_}
+use Prim.Native.Nat.{ℕ}
 use mathlib.Core.Path.{_≡_}
-use mathlib.Core.List.{List, [], _∷_, map}
-use lib.ListN.{length, replicate}
+use mathlib.Core.List.{List, [], map}
+use lib.ListN.{length}
 use lib.Seq.{sets}
 use Rattle.gdl.specs.Game.{Atom, Literal, Clause, Game}
 use Rattle.gdl.specs.Layout.{codeOf, kindsOf, firstsOf, secondsOf, headsOf, startsFrom, literalsOf, ownersOf}

@@ -1,10 +1,10 @@
 -- Laws of the marks of an accepted table that was consulted.
-use mathlib.Core.Path.{_≡_, refl, sym, ap, _∙_}
+use mathlib.Core.Path.{_≡_, sym, ap, _∙_}
 use mathlib.Core.List.{List, _++_, map}
 use Prim.Native.Nat.{ℕ, _-_, _≤_}
 use native.Mathlib.Nat.{sub-zero}
 use native.Mathlib.Omega.{arith}
-use lib.ListN.{length, take, length-map}
+use lib.ListN.{length, length-map}
 use lib.Seq.{sets}
 use Rattle.gdl.specs.Game.{Atom, Game}
 use Rattle.gdl.specs.Flags.{on, blank}

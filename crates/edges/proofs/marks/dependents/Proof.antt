@@ -6,10 +6,10 @@ use Rattle.edges.proofs.marks.dependents.Statement.{statement}
 use Rattle.edges.proofs.marks.dependents.Tie as tie
 
 abbrev Inv-loop : tie.InvT-loop
-Inv-loop from to first next seeds marks₀ queue₀ gathered n₀ at₀ marks queue n at = Closing from to seeds marks queue at n
+Inv-loop from to first next seeds size marks₀ queue₀ gathered n₀ at₀ marks queue n at = Closing from to seeds marks queue at n
 
 abbrev μ-loop : tie.MeasureT-loop
-μ-loop from to first next seeds marks₀ queue₀ gathered n₀ at₀ marks queue n at = 1024 - at
+μ-loop from to first next seeds size marks₀ queue₀ gathered n₀ at₀ marks queue n at = 1024 - at
 
 no-marks-requires : tie.Need-no-marks-requires Inv-loop μ-loop
 no-marks-requires c κs = search needs

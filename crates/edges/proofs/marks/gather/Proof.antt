@@ -7,10 +7,10 @@ use Rattle.edges.proofs.marks.gather.Statement.{statement}
 use Rattle.edges.proofs.marks.gather.Tie as tie
 
 abbrev Inv-loop : tie.InvT-loop
-Inv-loop seeds marks₀ queue₀ n₀ p₀ marks queue n p = Gathered seeds marks queue p n
+Inv-loop seeds size marks₀ queue₀ n₀ p₀ marks queue n p = Gathered seeds marks queue p n
 
 abbrev μ-loop : tie.MeasureT-loop
-μ-loop seeds marks₀ queue₀ n₀ p₀ marks queue n p = 1024 - p
+μ-loop seeds size marks₀ queue₀ n₀ p₀ marks queue n p = size - p
 
 loop-holds : tie.Need-loop-holds Inv-loop μ-loop
 loop-holds c = search (needs, gatherings)

@@ -8,7 +8,7 @@ seeds-of-requires : tie.Need-seeds-of-requires
 seeds-of-requires c κs = search needs
 
 dependents-requires : tie.Need-dependents-requires
-dependents-requires c κs = search needs
+dependents-requires c κs = search (needs, leaning)
 
 returns : tie.Need-returns
 returns c = search (needs, leaning)

@@ -6,7 +6,7 @@ use native.Mathlib.Omega.{arith}
 use lib.ListN.{getD}
 use borrow.Author.Needs.{needs}
 use borrow.Author.Tests.{eq-eqb, ne-eqb}
-use Rattle.referee.specs.Lowest.{lacks, wrongs}
+use Rattle.referee.specs.Lowest.{wrongs}
 use Rattle.referee.proofs.Playing.{Searched, search-starts, search-stops, search-goes-on, search-ends}
 use Rattle.referee.proofs.plays.first_illegal.Statement.{statement}
 use Rattle.referee.proofs.plays.first_illegal.Tie as tie

@@ -1,5 +1,3 @@
--- The tests of model in their order, and then the flags copied.
-use native.Mathlib.Omega.{arith}
 use Rattle.referee.proofs.Telling.{position-out, choices-out, room-out, flags-long, model-copied}
 use Rattle.verdict.specs.Consulted.{found}
 use borrow.Author.Needs.{needs}

@@ -1,8 +1,8 @@
--- Up to place i every flag fits.
+-- The flags before i passed; each turn passes one or 64 more.
 use Prim.Native.Nat.{_-_}
 use lib.ListN.{length}
 use borrow.Author.Needs.{needs}
-use Rattle.session.specs.Shape.{flagFits, inGrid, choiceWithin}
+use Rattle.session.specs.Shape.{flagFits, inGrid}
 use Rattle.session.proofs.Fits.{Testing, testings}
 use Rattle.session.proofs.shape.flags_fit.Statement.{statement}
 use Rattle.session.proofs.shape.flags_fit.Tie as tie
@@ -16,11 +16,8 @@ abbrev μ-loop : tie.MeasureT-loop
 loop-holds : tie.Need-loop-holds Inv-loop μ-loop
 loop-holds c = search (needs, testings)
 
-shared-slice-read-flag-fits : tie.Need-shared-slice-read-flag-fits Inv-loop μ-loop
-shared-slice-read-flag-fits c = search needs
-
-flag-fits-requires : tie.Need-flag-fits-requires Inv-loop μ-loop
-flag-fits-requires c κs = search needs
+fitting-requires : tie.Need-fitting-requires Inv-loop μ-loop
+fitting-requires c κs = search needs
 
 returns : tie.Need-returns Inv-loop μ-loop
 returns c = search (needs, testings)
@@ -44,8 +41,7 @@ flags-fit-spec =
     Inv-loop
     μ-loop
     loop-holds
-    shared-slice-read-flag-fits
-    flag-fits-requires
+    fitting-requires
     returns
     add-i
     loop-less
