@@ -1,3 +1,4 @@
+-- The tests of model in their order, and then the flags copied.
 use Rattle.referee.proofs.Telling.{position-out, choices-out, room-out, flags-long, model-copied}
 use Rattle.verdict.specs.Consulted.{found}
 use borrow.Author.Needs.{needs}
