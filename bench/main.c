@@ -314,7 +314,7 @@ static enum group group_of(const struct job *j, unsigned check_number)
 /* What a table's figures are counted in, and what is taken off its offers and plays. */
 struct scale {
     double touch, copy;
-    enum plain_levels rival;
+    enum plain_method rival;
     enum group group;
 };
 
@@ -353,7 +353,7 @@ static void bench_call(struct job *j, enum call call, const struct scale *s)
     note(&worsts[s->group], j, call, touches[2], touches[s->rival] >= LEAST ? touches[2] / touches[s->rival] : 0);
 }
 
-static void bench_table(struct job *j, enum plain_levels rival)
+static void bench_table(struct job *j, enum plain_method rival)
 {
     struct scale s = {seconds_of(NULL, j, CHECK), seconds_of(&plain, j, COPY), rival,
                       group_of(j, plain_number(plain_check(j->table, j->length)))};
@@ -376,7 +376,7 @@ static void print_summary(void)
 }
 
 /* Times the tables that the folder's list names. */
-static int bench_folder(const char *folder, enum plain_levels rival)
+static int bench_folder(const char *folder, enum plain_method rival)
 {
     static struct job job;
     char path[MOST_PATH];
