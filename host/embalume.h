@@ -33,7 +33,7 @@ extern "C" {
 #define EMBALUME_WRONG_LENGTH 255
 
 /*
- * number: 0 for success, 1 to 24 as README.md lists them, or EMBALUME_WRONG_LENGTH. If it is not 0 the record and lent
+ * number: 0 for success, 1 to 22 as README.md lists them, or EMBALUME_WRONG_LENGTH. If it is not 0 the record and lent
  * room are as they were; only a refused open with room for a record has written a blank one (round 0, nothing set or chosen).
  * place: where the refusal stands (a byte of the table, a clause, an atom or a seat), else 0.
  * value: the claim, the length of the message or the hidden answer; 0 on a refusal and for the other calls.

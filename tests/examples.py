@@ -67,7 +67,7 @@ DOCUMENT = [
     checked("example 1", "", "1 0"),
     checked("example 2", "80 00", "2 0"),
     checked("example 3", "FF FF", "1 0"),
-    checked("example 4", "80 80 04", "24 0"),
+    checked("example 4", "80 80 04", "2 0"),
     checked("example 5", "02", "3 0"),
     ("example 6", laid(
         SMALLEST, ("claim", "0 0 0"), ("open", "0 0"), ("message 0", "0 0 6 000000000000"),
@@ -99,10 +99,10 @@ DOCUMENT = [
 
 NUMBERS = [
     checked("B1 cut off after two bytes", "80 80", "1 0"),
-    checked("B1 top bit on a third byte", "80 80 80", "24 0"),
-    checked("B1 a fourth byte is not looked at", "80 80 80 01", "24 0"),
+    checked("B1 top bit on a third byte", "80 80 80", "2 0"),
+    checked("B1 a fourth byte is not looked at", "80 80 80 01", "2 0"),
     checked("B1 padded to three", "81 80 00", "2 0"),
-    checked("B1 65,536 and more", "FF FF 04", "24 0"),
+    checked("B1 65,536 and more", "FF FF 04", "2 0"),
     checked("B2 before a number", "01", "1 1"),
     checked("B3 faulty number, no range test", "82 00", "2 0"),
     checked("B4 version 0", "00", "3 0"),

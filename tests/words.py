@@ -8,8 +8,8 @@ BYTE, CLAUSE, ATOM, SEAT, NOWHERE = "byte", "clause", "atom", "seat", ""
 REFUSALS = {
     1: ("the input ends inside or before a number", BYTE,
         "send the table whole, or correct the count that promises more than follows"),
-    2: ("a number is not in its shortest form", BYTE,
-        "write the number in as few bytes as it needs"),
+    2: ("a number is not in its shortest form, or is over 65,535", BYTE,
+        "write the number in as few bytes as it needs; 65,535 is the largest"),
     3: ("a number is outside its range, or the literals are more than 8,192 together", BYTE,
         "bring the field at this byte within its limits; a clause may have 64 literals "
         "and a table 8,192"),
@@ -47,8 +47,6 @@ REFUSALS = {
     21: ("the session record or the position is badly shaped", NOWHERE,
          "use a record that this table's calls have handed back"),
     22: ("round 65,535 is the last", NOWHERE, "open a new session"),
-    24: ("a number is over 65,535, or its third byte has its top bit set", BYTE,
-         "bring the number down; 65,535 is the largest"),
 }
 
 

@@ -3,14 +3,14 @@ use mathlib.Core.Path.{_≡_}
 use mathlib.Core.Logic.{_≢_}
 use native.Mathlib.Omega.{arith}
 use Rattle.refusals.specs.declared.Refusal.{Refusal}
-use Rattle.refusals.specs.declared.Refusal.the-variants.{Success, InputEnds, NotShortest, OutOfRange, NotAbove, BytesAfter, RoleWithBody, NeverHead, NeverInBody, InitRule, DoesRule, NoLevels, NoRoleFact, TableTooLong, RoomTooShort, NoSuchSeat, NoSuchMove, AlreadyChosen, NotLegal, GameOver, NoChoice, BadShape, LastRound, TooLarge}
+use Rattle.refusals.specs.declared.Refusal.the-variants.{Success, InputEnds, NotANumber, OutOfRange, NotAbove, BytesAfter, RoleWithBody, NeverHead, NeverInBody, InitRule, DoesRule, NoLevels, NoRoleFact, TableTooLong, RoomTooShort, NoSuchSeat, NoSuchMove, AlreadyChosen, NotLegal, GameOver, NoChoice, BadShape, LastRound}
 use Rattle.refusals.specs.Refusal.{numberOf}
 use Rattle.host.specs.Hosted.{wrongLength}
 
 pub apart : (r : Refusal) → numberOf r ≢ wrongLength .number
 apart Success e = omega arith
 apart (InputEnds p) e = omega arith
-apart (NotShortest p) e = omega arith
+apart (NotANumber p) e = omega arith
 apart (OutOfRange p) e = omega arith
 apart (NotAbove p) e = omega arith
 apart (BytesAfter p) e = omega arith
@@ -31,4 +31,3 @@ apart GameOver e = omega arith
 apart (NoChoice p) e = omega arith
 apart BadShape e = omega arith
 apart LastRound e = omega arith
-apart (TooLarge p) e = omega arith

@@ -1,4 +1,4 @@
--- The check answers Success just where the table is accepted, and else one of the table's refusals.
+-- The check answers Success just where the table is accepted, and else one of the table's refusals, 1 to 13.
 use mathlib.Core.Path.{_≡_, refl, subst}
 use mathlib.Core.Logic.{_↔_}
 use mathlib.Core.List.{List}

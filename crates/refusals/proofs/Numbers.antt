@@ -3,13 +3,13 @@ use mathlib.Core.Path.{_≡_, refl}
 use native.Mathlib.Omega.{arith}
 use Rattle.refusals.specs.Refusal.{numberOf}
 use Rattle.refusals.specs.declared.Refusal.{Refusal}
-use Rattle.refusals.specs.declared.Refusal.the-variants.{Success, InputEnds, NotShortest, OutOfRange, NotAbove, BytesAfter, RoleWithBody, NeverHead, NeverInBody, InitRule, DoesRule, NoLevels, NoRoleFact, TableTooLong, RoomTooShort, NoSuchSeat, NoSuchMove, AlreadyChosen, NotLegal, GameOver, NoChoice, BadShape, LastRound, TooLarge}
+use Rattle.refusals.specs.declared.Refusal.the-variants.{Success, InputEnds, NotANumber, OutOfRange, NotAbove, BytesAfter, RoleWithBody, NeverHead, NeverInBody, InitRule, DoesRule, NoLevels, NoRoleFact, TableTooLong, RoomTooShort, NoSuchSeat, NoSuchMove, AlreadyChosen, NotLegal, GameOver, NoChoice, BadShape, LastRound}
 
 -- "Success answers 0", and nothing else does
 pub zero-success : (r : Refusal) → numberOf r ≡ 0 → r ≡ Success
 zero-success Success e = refl
 zero-success (InputEnds p) e = absurd (omega arith)
-zero-success (NotShortest p) e = absurd (omega arith)
+zero-success (NotANumber p) e = absurd (omega arith)
 zero-success (OutOfRange p) e = absurd (omega arith)
 zero-success (NotAbove p) e = absurd (omega arith)
 zero-success (BytesAfter p) e = absurd (omega arith)
@@ -30,4 +30,3 @@ zero-success GameOver e = absurd (omega arith)
 zero-success (NoChoice p) e = absurd (omega arith)
 zero-success BadShape e = absurd (omega arith)
 zero-success LastRound e = absurd (omega arith)
-zero-success (TooLarge p) e = absurd (omega arith)

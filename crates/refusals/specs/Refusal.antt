@@ -1,14 +1,14 @@
 -- "Numbers of refusal": the number and the place of each case. "Success answers 0, place 0."
 use Prim.Native.Nat.{ℕ}
 use Rattle.refusals.specs.declared.Refusal.{Refusal}
-use Rattle.refusals.specs.declared.Refusal.the-variants.{Success, InputEnds, NotShortest, OutOfRange, NotAbove, BytesAfter, RoleWithBody, NeverHead, NeverInBody, InitRule, DoesRule, NoLevels, NoRoleFact, TableTooLong, RoomTooShort, NoSuchSeat, NoSuchMove, AlreadyChosen, NotLegal, GameOver, NoChoice, BadShape, LastRound, TooLarge}
+use Rattle.refusals.specs.declared.Refusal.the-variants.{Success, InputEnds, NotANumber, OutOfRange, NotAbove, BytesAfter, RoleWithBody, NeverHead, NeverInBody, InitRule, DoesRule, NoLevels, NoRoleFact, TableTooLong, RoomTooShort, NoSuchSeat, NoSuchMove, AlreadyChosen, NotLegal, GameOver, NoChoice, BadShape, LastRound}
 
 abbrev pub numberOf : Refusal → ℕ
 numberOf Success = 0
 -- "input ends inside or before a number"
 numberOf (InputEnds p) = 1
--- "2 is kept for a form that is not shortest"
-numberOf (NotShortest p) = 2
+-- "number not shortest, or over 65,535"
+numberOf (NotANumber p) = 2
 -- "number outside its range, or a literal count that takes the total past 8,192"
 numberOf (OutOfRange p) = 3
 -- "atom record not above the one before"
@@ -49,14 +49,12 @@ numberOf (NoChoice p) = 20
 numberOf BadShape = 21
 -- "round is 65,535"
 numberOf LastRound = 22
--- "24 is new, with 2's place, for a third byte with its top bit set or a value over 65,535"
-numberOf (TooLarge p) = 24
 
 abbrev pub placeOf : Refusal → ℕ
 placeOf Success = 0
 -- "where that number starts"
 placeOf (InputEnds p) = p
-placeOf (NotShortest p) = p
+placeOf (NotANumber p) = p
 placeOf (OutOfRange p) = p
 -- "where the record starts"
 placeOf (NotAbove p) = p
@@ -84,5 +82,3 @@ placeOf GameOver = 0
 placeOf (NoChoice p) = p
 placeOf BadShape = 0
 placeOf LastRound = 0
--- "where that number starts"
-placeOf (TooLarge p) = p

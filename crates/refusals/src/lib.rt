@@ -1,4 +1,4 @@
-// The refusals of document 01's table and of the requests since, one case for each row, with its number and its place.
+// The refusals of document 01's table, one case for each row, with its number and its place.
 ghost use mathlib.Core.Path.{_≡_};
 ghost use Rattle.refusals.specs.Refusal.{numberOf, placeOf};
 
@@ -6,7 +6,7 @@ ghost use Rattle.refusals.specs.Refusal.{numberOf, placeOf};
 pub enum Refusal {
     Success,
     InputEnds(usize),
-    NotShortest(usize),
+    NotANumber(usize),
     OutOfRange(usize),
     NotAbove(usize),
     BytesAfter(usize),
@@ -27,7 +27,6 @@ pub enum Refusal {
     NoChoice(usize),
     BadShape,
     LastRound,
-    TooLarge(usize),
 }
 
 pub fn number_of(r: Refusal) -> u8
@@ -36,7 +35,7 @@ pub fn number_of(r: Refusal) -> u8
     match r {
         Refusal::Success => 0,
         Refusal::InputEnds(_) => 1,
-        Refusal::NotShortest(_) => 2,
+        Refusal::NotANumber(_) => 2,
         Refusal::OutOfRange(_) => 3,
         Refusal::NotAbove(_) => 4,
         Refusal::BytesAfter(_) => 5,
@@ -57,7 +56,6 @@ pub fn number_of(r: Refusal) -> u8
         Refusal::NoChoice(_) => 20,
         Refusal::BadShape => 21,
         Refusal::LastRound => 22,
-        Refusal::TooLarge(_) => 24,
     }
 }
 
@@ -66,7 +64,7 @@ pub fn place_of(r: Refusal) -> usize
 {
     match r {
         Refusal::InputEnds(p) => p,
-        Refusal::NotShortest(p) => p,
+        Refusal::NotANumber(p) => p,
         Refusal::OutOfRange(p) => p,
         Refusal::NotAbove(p) => p,
         Refusal::BytesAfter(p) => p,
@@ -79,7 +77,6 @@ pub fn place_of(r: Refusal) -> usize
         Refusal::NoRoleFact(p) => p,
         Refusal::NotLegal(p) => p,
         Refusal::NoChoice(p) => p,
-        Refusal::TooLarge(p) => p,
         Refusal::Success => 0,
         Refusal::TableTooLong => 0,
         Refusal::RoomTooShort => 0,

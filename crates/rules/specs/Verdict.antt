@@ -1,4 +1,4 @@
--- The verdict on a table: a refusal of the table with its place, or the game that it holds.
+-- The verdict on a table: a refusal (1 to 13) with its place, or the game that it holds.
 use Rattle.refusals.specs.declared.Refusal.{Refusal}
 use Rattle.gdl.specs.Game.{Game}
 

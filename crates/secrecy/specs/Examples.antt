@@ -4,7 +4,7 @@ use mathlib.Core.List.{List, [], _∷_, _++_}
 use Prim.Native.Nat.{ℕ}
 use lib.ListN.{length, drop}
 use Rattle.refusals.specs.declared.Refusal.{Refusal}
-use Rattle.refusals.specs.declared.Refusal.the-variants.{Success, InputEnds, NotShortest, OutOfRange, BytesAfter, NoLevels, TooLarge}
+use Rattle.refusals.specs.declared.Refusal.the-variants.{Success, InputEnds, NotANumber, OutOfRange, BytesAfter, NoLevels}
 use Rattle.gdl.specs.Game.{Game}
 use Rattle.gdl.specs.Truth.{State}
 use Rattle.gdl.specs.Published.{t}
@@ -89,11 +89,11 @@ both a b = opening ▷ offering 0 a ▷ offering 1 b ▷ playing
 
 unfoldable pub examples : List Example
 examples =
-    -- 1 to 5: "Empty input: 1, place 0", "`80 00`: 2", "`FF FF`: 1", "`80 80 04` (65,536)": 24 since the request that tells long from large, "`02`: 3"
+    -- 1 to 5: "Empty input: 1, place 0", "`80 00`: 2", "`FF FF`: 1", "`80 80 04` (65,536): 2", "`02`: 3"
     checks [] (InputEnds 0) ∷
-    checks (0x80 ∷ 0x00 ∷ []) (NotShortest 0) ∷
+    checks (0x80 ∷ 0x00 ∷ []) (NotANumber 0) ∷
     checks (0xFF ∷ 0xFF ∷ []) (InputEnds 0) ∷
-    checks (0x80 ∷ 0x80 ∷ 0x04 ∷ []) (TooLarge 0) ∷
+    checks (0x80 ∷ 0x80 ∷ 0x04 ∷ []) (NotANumber 0) ∷
     checks (0x02 ∷ []) (OutOfRange 0) ∷
     -- 6: "accepted; one seat, never over. With one byte more: 5, place 13."
     checks smallest Success ∷

@@ -5,7 +5,7 @@ use mathlib.Core.List.{List, [], _∷_, _++_}
 use lib.ListN.{length}
 use borrow.Author.Tests.{lt-ltb}
 use Rattle.numbers.specs.Number.{numberAt, runAt, numberOfTwo, numberOfThree}
-use Rattle.refusals.specs.declared.Refusal.the-variants.{InputEnds, NotShortest, OutOfRange, NotAbove, BytesAfter, TableTooLong, TooLarge}
+use Rattle.refusals.specs.declared.Refusal.the-variants.{InputEnds, NotANumber, OutOfRange, NotAbove, BytesAfter, TableTooLong}
 use Rattle.gdl.specs.Game.{Game}
 use Rattle.table.specs.Parse.{ok, fault, bounded}
 use Rattle.table.specs.Table.{players, sizes, header, firstBound, secondBound, field, atom, key, atomsFrom, literals, clause, clausesFrom, clauses, game, table}
@@ -28,20 +28,20 @@ one-seat = record {
 
 pub record Examples : Type 0 where
   pub one : table [] 0 ≡ fault (InputEnds 0)
-  pub two : table (0x80 ∷ 0x00 ∷ []) 0 ≡ fault (NotShortest 0)
+  pub two : table (0x80 ∷ 0x00 ∷ []) 0 ≡ fault (NotANumber 0)
   pub three : table (0xFF ∷ 0xFF ∷ []) 0 ≡ fault (InputEnds 0)
-  pub four : table (0x80 ∷ 0x80 ∷ 0x04 ∷ []) 0 ≡ fault (TooLarge 0)
+  pub four : table (0x80 ∷ 0x80 ∷ 0x04 ∷ []) 0 ≡ fault (NotANumber 0)
   pub five : table (0x02 ∷ []) 0 ≡ fault (OutOfRange 0)
   pub six : table smallest 0 ≡ ok one-seat 13
   pub six-and-more : table (smallest ++ 0x00 ∷ []) 0 ≡ fault (BytesAfter 13)
   -- "A run that the input cuts off is fault 1."
   pub cut-off : table (0x80 ∷ 0x80 ∷ []) 0 ≡ fault (InputEnds 0)
-  -- "24 .. for a third byte with its top bit set"
-  pub third-byte : table (0x80 ∷ 0x80 ∷ 0x80 ∷ []) 0 ≡ fault (TooLarge 0)
+  -- "A set top bit on a third byte is fault 2."
+  pub third-byte : table (0x80 ∷ 0x80 ∷ 0x80 ∷ []) 0 ≡ fault (NotANumber 0)
   -- "input ends inside or before a number": at its start
   pub before : table (0x01 ∷ []) 0 ≡ fault (InputEnds 1)
   -- "a number faulty as a number is not tested for range": version 2 in a longer form
-  pub not-tested : table (0x82 ∷ 0x00 ∷ []) 0 ≡ fault (NotShortest 0)
+  pub not-tested : table (0x82 ∷ 0x00 ∷ []) 0 ≡ fault (NotANumber 0)
   -- the terminal atom twice, at the second record's start
   pub twice : table (0x01 ∷ 0x00 ∷ 0x01 ∷ 0x00 ∷ 0x00 ∷ 0x01 ∷ 0x00 ∷ 0x02 ∷ 0x08 ∷ 0x08 ∷ []) 0 ≡ fault (NotAbove 9)
   -- a role record after a terminal one, whose seat is missing: 4 is tested only when all fields are read

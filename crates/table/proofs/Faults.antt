@@ -1,8 +1,8 @@
--- A table that cannot be read is refused with one of the table's own numbers, 1 to 13 or 24.
-use mathlib.Core.Bool.{Bool, true, false, _&&_, _||_}
+-- A table that cannot be read is refused with one of the table's own numbers, 1 to 13.
+use mathlib.Core.Bool.{Bool, true, false, _&&_}
 use mathlib.Core.List.{List}
 use Prim.Native.Nat.{ℕ, zero, suc, _+_, _-_, _*_}
-use lib.Dec.{T, eqb, ltb, leb}
+use lib.Dec.{T, ltb, leb}
 use lib.ListN.{length}
 use Rattle.numbers.specs.Number.{numberAt}
 use Rattle.numbers.specs.declared.Number.{Number}
@@ -19,7 +19,7 @@ use Rattle.table.specs.declared.atoms.Bound.the-variants.{Absent, Below}
 
 -- a refusal of a table
 abbrev pub OfTable : Refusal → Type 0
-OfTable r = T (leb 1 (numberOf r) && (leb (numberOf r) 13 || eqb (numberOf r) 24))
+OfTable r = T (leb 1 (numberOf r) && leb (numberOf r) 13)
 
 abbrev pub Faults : {A : Type 0} → Parse A → Type 0
 Faults (ok a n) = Unit {0}

@@ -7,7 +7,7 @@ use Rattle.numbers.specs.Number.{numberAt}
 use Rattle.numbers.specs.declared.Number.{Number}
 use Rattle.numbers.specs.declared.Number.the-variants.{Read, Cut, Long, Large}
 use Rattle.refusals.specs.declared.Refusal.{Refusal}
-use Rattle.refusals.specs.declared.Refusal.the-variants.{InputEnds, NotShortest, OutOfRange, TooLarge}
+use Rattle.refusals.specs.declared.Refusal.the-variants.{InputEnds, NotANumber, OutOfRange}
 use Rattle.table.specs.Parse.{Parse, ok, fault, after, inRange, bounded}
 use Rattle.table.specs.Table.{players, sizes, header, field, firstBound, secondBound, atom}
 use Rattle.table.specs.Says.{fieldSays, playersSay, sizesSay}
@@ -29,11 +29,11 @@ module _ (s : List ℕ) (at lo end : ℕ) (r : Number) (e : r ≡ numberAt s at)
   unfolding bounded
   number-cut h = rw (← e, h)
 
-  pub number-long : r ≡ Long → fault (NotShortest at) ≡ bounded lo end s at
+  pub number-long : r ≡ Long → fault (NotANumber at) ≡ bounded lo end s at
   unfolding bounded
   number-long h = rw (← e, h)
 
-  pub number-large : r ≡ Large → fault (TooLarge at) ≡ bounded lo end s at
+  pub number-large : r ≡ Large → fault (NotANumber at) ≡ bounded lo end s at
   unfolding bounded
   number-large h = rw (← e, h)
 

@@ -9,7 +9,7 @@ use Rattle.numbers.specs.Number.{numberAt}
 use Rattle.numbers.specs.declared.Number.{Number}
 use Rattle.numbers.specs.declared.Number.the-variants.{Read, Cut, Long, Large}
 use Rattle.refusals.specs.declared.Refusal.{Refusal}
-use Rattle.refusals.specs.declared.Refusal.the-variants.{InputEnds, NotShortest, OutOfRange, TooLarge}
+use Rattle.refusals.specs.declared.Refusal.the-variants.{InputEnds, NotANumber, OutOfRange}
 
 pub data Parse (A : Type 0) : Type 0 where
   ok : A → ℕ → Parse A
@@ -43,12 +43,12 @@ abbrev pub refuse_if_ : Refusal → Bool → Reader (Unit {0})
 (refuse f if true) s at = fault f
 (refuse f if false) s at = ok tt at
 
--- "a number faulty as a number is not tested for range"
+-- "a number faulty as a number is not tested for range"; "number not shortest, or over 65,535" are one fault
 abbrev pub inRange : ℕ → ℕ → ℕ → Number → Parse ℕ
 inRange lo end at (Read v n) = if ltb v lo then fault (OutOfRange at) else if leb end v then fault (OutOfRange at) else ok v n
 inRange lo end at Cut = fault (InputEnds at)
-inRange lo end at Long = fault (NotShortest at)
-inRange lo end at Large = fault (TooLarge at)
+inRange lo end at Long = fault (NotANumber at)
+inRange lo end at Large = fault (NotANumber at)
 
 -- a number from lo up to but not at end
 unfoldable pub bounded : ℕ → ℕ → Reader ℕ

@@ -31,7 +31,7 @@ pub fn read_field(s: &[u8], at: usize, lo: u16, end: u32) -> Field
             Field::Value(Item { value: v, next })
         }
         Number::Cut => Field::Fault(Refusal::InputEnds(at)),
-        Number::Long => Field::Fault(Refusal::NotShortest(at)),
-        Number::Large => Field::Fault(Refusal::TooLarge(at)),
+        Number::Long => Field::Fault(Refusal::NotANumber(at)),
+        Number::Large => Field::Fault(Refusal::NotANumber(at)),
     }
 }

@@ -42,8 +42,8 @@ fn numbers() {
     tell(b"2. (P) 80 00: 2, place 0", is_refused(b"\x80\x00", 2, 0));
     tell(b"3. (P) FF FF: 1, place 0", is_refused(b"\xff\xff", 1, 0));
     tell(
-        b"4. (P) 80 80 04: 24, place 0",
-        is_refused(b"\x80\x80\x04", 24, 0),
+        b"4. (P) 80 80 04: 2, place 0",
+        is_refused(b"\x80\x80\x04", 2, 0),
     );
     tell(b"5. (P) 02: 3, place 0", is_refused(b"\x02", 3, 0));
 }

@@ -72,9 +72,6 @@ enum-told-22 c = search needs
 enum-told-23 : tie.Need-enum-told-23
 enum-told-23 c = search needs
 
-enum-told-24 : tie.Need-enum-told-24
-enum-told-24 c = search needs
-
 returns : tie.Need-returns
 returns c = rw (c .enum-told .given .1)
 
@@ -144,9 +141,6 @@ returns-22 c = rw (c .enum-told22 .given .1)
 returns-23 : tie.Need-returns-23
 returns-23 c = rw (c .enum-told23 .given .1)
 
-returns-24 : tie.Need-returns-24
-returns-24 c = rw (c .enum-told24 .given .1)
-
 pub number-of-spec : {M : Type 1} → statement M
 number-of-spec =
     tie.close
@@ -174,7 +168,6 @@ number-of-spec =
     enum-told-21
     enum-told-22
     enum-told-23
-    enum-told-24
     returns
     returns-2
     returns-3
@@ -197,5 +190,4 @@ number-of-spec =
     returns-20
     returns-21
     returns-22
-    returns-23
-    returns-24)
+    returns-23)

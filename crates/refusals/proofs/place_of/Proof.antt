@@ -45,9 +45,6 @@ enum-known-r-13 c = search needs
 enum-known-r-14 : tie.Need-enum-known-r-14
 enum-known-r-14 c = search needs
 
-enum-known-r-15 : tie.Need-enum-known-r-15
-enum-known-r-15 c = search needs
-
 enum-told : tie.Need-enum-told
 enum-told c = search needs
 
@@ -118,34 +115,31 @@ returns-14 : tie.Need-returns-14
 returns-14 c = rw (c .before .r14 .given .1)
 
 returns-15 : tie.Need-returns-15
-returns-15 c = rw (c .before .r15 .given .1)
+returns-15 c = rw (c .enum-told .given .1)
 
 returns-16 : tie.Need-returns-16
-returns-16 c = rw (c .enum-told .given .1)
+returns-16 c = rw (c .enum-told2 .given .1)
 
 returns-17 : tie.Need-returns-17
-returns-17 c = rw (c .enum-told2 .given .1)
+returns-17 c = rw (c .enum-told3 .given .1)
 
 returns-18 : tie.Need-returns-18
-returns-18 c = rw (c .enum-told3 .given .1)
+returns-18 c = rw (c .enum-told4 .given .1)
 
 returns-19 : tie.Need-returns-19
-returns-19 c = rw (c .enum-told4 .given .1)
+returns-19 c = rw (c .enum-told5 .given .1)
 
 returns-20 : tie.Need-returns-20
-returns-20 c = rw (c .enum-told5 .given .1)
+returns-20 c = rw (c .enum-told6 .given .1)
 
 returns-21 : tie.Need-returns-21
-returns-21 c = rw (c .enum-told6 .given .1)
+returns-21 c = rw (c .enum-told7 .given .1)
 
 returns-22 : tie.Need-returns-22
-returns-22 c = rw (c .enum-told7 .given .1)
+returns-22 c = rw (c .enum-told8 .given .1)
 
 returns-23 : tie.Need-returns-23
-returns-23 c = rw (c .enum-told8 .given .1)
-
-returns-24 : tie.Need-returns-24
-returns-24 c = rw (c .enum-told9 .given .1)
+returns-23 c = rw (c .enum-told9 .given .1)
 
 pub place-of-spec : {M : Type 1} → statement M
 place-of-spec =
@@ -165,7 +159,6 @@ place-of-spec =
     enum-known-r-12
     enum-known-r-13
     enum-known-r-14
-    enum-known-r-15
     enum-told
     enum-told-2
     enum-told-3
@@ -197,5 +190,4 @@ place-of-spec =
     returns-20
     returns-21
     returns-22
-    returns-23
-    returns-24)
+    returns-23)
