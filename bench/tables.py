@@ -156,6 +156,31 @@ def full_levels():
     return table.to_bytes()
 
 
+def ring():
+    """One group of nearly all atoms, each if the one after it, twice over: a level that rises in it walks all the way round."""
+    table = one_seat()
+    last = CHAIN - 2
+    for number in range(1, last + 1):
+        after = plain(number % last + 1)
+        table.clause(plain(number), *[("role", 0)] * 3, after)
+        table.clause(plain(number), after, *[plain(1 + (number * 7 + step * 131) % last) for step in range(3)])
+    table.clause(plain(last), ("not", plain(0)))
+    return table.to_bytes()
+
+
+def tower_of_rings():
+    """Rings of six atoms, each of which negates one of the ring below: 170 levels of groups, the last clause first."""
+    table = one_seat()
+    size, rings = 6, CHAIN // 6
+    for ring_number in range(rings - 1, -1, -1):
+        first = ring_number * size
+        for number in range(size):
+            table.clause(plain(first + number), plain(first + (number + 1) % size), *[("role", 0)] * 4)
+        if ring_number:
+            table.clause(plain(first), ("not", plain(first - 1)))
+    return table.to_bytes()
+
+
 def negative_cycle():
     """One cycle through all atoms with a single negative edge, which starts at the highest atom."""
     table = one_seat()
@@ -246,7 +271,7 @@ def promise_of_atoms():
 
 
 HOSTILE = (
-    chain, full_chain, levels, full_levels, negative_cycle, late_negative_cycle, one_head, full_bodies, largest,
+    chain, full_chain, levels, full_levels, ring, tower_of_rings, negative_cycle, late_negative_cycle, one_head, full_bodies, largest,
     bands, every_move, memory, promise_of_atoms, table_and_rubbish, rubbish,
 )
 
