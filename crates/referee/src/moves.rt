@@ -1,4 +1,5 @@
 // Offer, on an accepted table.
+use crate::positions::kept;
 use crate::positions::limits_of;
 use calls::Moved;
 use gdl::Move;
@@ -34,44 +35,26 @@ pub fn offer_fit(
 {
     let limits = limits_of(header);
     if !shaped(session, limits) {
-        return Moved {
-            refusal: Refusal::BadShape,
-            session,
-        };
+        return kept(Refusal::BadShape, session);
     }
     let ends = marks_in(header, kinds, firsts, seconds, flags, 8, 1);
     if ends[0] == 1 {
-        return Moved {
-            refusal: Refusal::GameOver,
-            session,
-        };
+        return kept(Refusal::GameOver, session);
     }
     if limits.seats <= seat.0 {
-        return Moved {
-            refusal: Refusal::NoSuchSeat,
-            session,
-        };
+        return kept(Refusal::NoSuchSeat, session);
     }
     if limits.moves <= choice.0 {
-        return Moved {
-            refusal: Refusal::NoSuchMove,
-            session,
-        };
+        return kept(Refusal::NoSuchMove, session);
     }
     let at = seat.0 as usize;
     let mut choices = session.choices;
     if choices[at] != 0 {
-        return Moved {
-            refusal: Refusal::AlreadyChosen,
-            session,
-        };
+        return kept(Refusal::AlreadyChosen, session);
     }
     let legal = marks_in(header, kinds, firsts, seconds, flags, 5, 256);
     if legal[at * 256 + choice.0 as usize] != 1 {
-        return Moved {
-            refusal: Refusal::NotLegal(0),
-            session,
-        };
+        return kept(Refusal::NotLegal(0), session);
     }
     choices[at] = choice.0 + 1;
     let position = session.position;

@@ -1,5 +1,6 @@
 // Play, on an accepted table.
 use crate::positions::first_marks;
+use crate::positions::kept;
 use crate::positions::limits_of;
 use crate::positions::no_choices;
 use calls::Moved;
@@ -48,12 +49,6 @@ fn first_illegal(choices: [u16; 8], legal: &[u8; 2048], seats: u16) -> u16
         s += 1;
     }
     s
-}
-
-fn kept(refusal: Refusal, session: Session) -> Moved
-    ensures { λ r. ⌜ r ≡ record { refusal = refusal; session = session } ⌝ }
-{
-    Moved { refusal, session }
 }
 
 // "play 19, 20, 18, 22", after 21. What was found is true with the joint choice; by rule 10 that changes neither the end nor what is legal.

@@ -1,4 +1,7 @@
-// Limits, blank rooms, and positions from marks.
+// Limits, blank rooms, positions from marks, and a record handed back as it came.
+use calls::Moved;
+use refusals::Refusal;
+use session::Session;
 use session::shape::Limits;
 use table::header::Header;
 ghost use mathlib.Core.Path.{_≡_};
@@ -47,4 +50,11 @@ pub fn first_marks(marks: &[u8; 2048]) -> [u8; 512]
         i += 1;
     }
     position
+}
+
+// A refusal, and the session as it came.
+pub fn kept(refusal: Refusal, session: Session) -> Moved
+    ensures { λ r. ⌜ r ≡ record { refusal = refusal; session = session } ⌝ }
+{
+    Moved { refusal, session }
 }
