@@ -2,9 +2,9 @@
 use crate::Answer;
 use crate::said;
 use calls::Moved;
+use numbers::copying::copy;
 use refusals::number_of;
 use session::bytes::blank_session;
-use session::bytes::copy;
 use session::bytes::to_bytes;
 ghost use mathlib.Core.Path.{_≡_};
 ghost use lib.ListN.{length};

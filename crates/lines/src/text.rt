@@ -1,20 +1,7 @@
 // Bytes put into lent room one after another.
+use numbers::copying::copy;
 ghost use mathlib.Core.Path.{_≡_};
-ghost use Prim.Native.Nat.{_+_, _≤_};
-ghost use lib.ListN.{length};
-ghost use lib.Seq.{sets};
 ghost use Rattle.numbers.specs.Writing.{writtenAt};
-
-fn copy(part: &[u8], room: &mut [u8], at: usize)
-    requires { ⌜ at + length (now part) ≤ length (now room) ⌝ }
-    ensures { λ _. ⌜ now (room .exit) ≡ sets (now (room .entry)) at (now (part .entry)) ⌝ }
-{
-    let mut k: usize = 0;
-    while k < part.len() {
-        room[at + k] = part[k];
-        k += 1;
-    }
-}
 
 // Puts bytes at a place of the room, and answers the place after them; where they do not fit the room stays as it was, and the
 // answer is the place itself.

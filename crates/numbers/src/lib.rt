@@ -4,6 +4,8 @@ ghost use Prim.Native.Nat.{_+_, _%_};
 ghost use Rattle.numbers.specs.Number.{runAt, numberOfTwo, numberOfThree, numberAt};
 ghost use Rattle.numbers.specs.Writing.{numberBytes, writtenAt};
 
+pub mod copying;
+
 // What stands at a place: a number with the place after it; a number that the input cuts off; a run of bytes that is not the
 // shortest form of its number; a run that says more than 65,535.
 pub enum Number {

@@ -1,5 +1,6 @@
 // The record as bytes: its fields in their order, little endian, 512 + 16 + 2,048 + 4 = 2,580 bytes.
 use crate::Session;
+use numbers::copying::copy;
 ghost use mathlib.Core.Path.{_≡_};
 ghost use Prim.Native.Nat.{_+_, _*_, _≤_};
 ghost use lib.ListN.{length, take, drop};
@@ -47,18 +48,6 @@ pub fn blank_session() -> Session
         choices: no_choices(),
         percepts: no_percepts(),
         round: 0,
-    }
-}
-
-// Copies a part into a room, from a place on.
-pub fn copy(part: &[u8], room: &mut [u8], at: usize)
-    requires { ⌜ at + length (now part) ≤ length (now room) ⌝ }
-    ensures { λ _. ⌜ now (room .exit) ≡ sets (now (room .entry)) at (now (part .entry)) ⌝ }
-{
-    let mut k: usize = 0;
-    while k < part.len() {
-        room[at + k] = part[k];
-        k += 1;
     }
 }
 

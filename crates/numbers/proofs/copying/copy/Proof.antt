@@ -1,10 +1,10 @@
--- The invariant: storing what is left at its place gives the whole.
+-- What is left of the part is stored further on; nothing is left at the end.
+use borrow.Author.Needs.{needs}
 use Prim.Native.Nat.{_-_}
 use lib.ListN.{length}
-use borrow.Author.Needs.{needs}
-use Rattle.lines.proofs.Putting.{Copying, copies}
-use Rattle.lines.proofs.text.copy.Statement.{statement}
-use Rattle.lines.proofs.text.copy.Tie as tie
+use Rattle.numbers.proofs.Storing.{Copying, copyings}
+use Rattle.numbers.proofs.copying.copy.Statement.{statement}
+use Rattle.numbers.proofs.copying.copy.Tie as tie
 
 abbrev Inv-loop : tie.InvT-loop
 Inv-loop part room₀ at k₀ room k = Copying part room₀ at room k
@@ -13,7 +13,7 @@ abbrev μ-loop : tie.MeasureT-loop
 μ-loop part room₀ at k₀ room k = length part - k
 
 loop-holds : tie.Need-loop-holds Inv-loop μ-loop
-loop-holds c = search (needs, copies)
+loop-holds c = search (needs, copyings)
 
 shared-slice-read-room : tie.Need-shared-slice-read-room Inv-loop μ-loop
 shared-slice-read-room c = search needs
@@ -31,13 +31,13 @@ loop-less : tie.Need-loop-less Inv-loop μ-loop
 loop-less c = search needs
 
 loop-again : tie.Need-loop-again Inv-loop μ-loop
-loop-again c = search (needs, copies)
+loop-again c = search (needs, copyings)
 
 same-length : tie.Need-same-length Inv-loop μ-loop
 same-length c = search needs
 
 returns : tie.Need-returns Inv-loop μ-loop
-returns c = search (needs, copies)
+returns c = search (needs, copyings)
 
 pub copy-spec : {M : Type 1} → statement M
 copy-spec =
