@@ -16,14 +16,14 @@ use Rattle.rules.specs.Verdict.{Verdict, unfit, fit}
 use Rattle.rules.specs.Rules.{LevelsBroken, RoleMissing, Ruled}
 use Rattle.judge.specs.Answers.{Finds, Searched}
 use Rattle.judge.specs.Arrays.{HeldClauses, HeldEdges, HeldRoles}
-use Rattle.judge.specs.Judgement.{Rule, RuledIn, clauseRules, dependenceRules, lastRules, verdictOf, Held, Answers, Levelled, LevelsOr11, LevelsOf, Judges, refusedBy, HeldLast}
+use Rattle.judge.specs.Judgement.{Rule, RuledIn, headRules, useRules, lastRules, verdictOf, Held, HeldUses, Answers, Levelled, LevelsOr11, LevelsOf, Judges, refusedBy, HeldLast}
 use Rattle.levels.specs.declared.Numbering.{Numbering}
 use Rattle.levels.specs.declared.Numbering.the-variants.{Allowed, Refused}
 use Rattle.judge.specs.declared.Judgement.{Judgement}
 use Rattle.judge.specs.declared.found.Found.{Found}
 use Rattle.judge.specs.declared.found.Found.the-variants.{Nowhere, At}
 use Rattle.judge.proofs.Numbering.{levelled-none}
-use Rattle.judge.proofs.Shaping.{held-clauses, held-edges, held-last}
+use Rattle.judge.proofs.Shaping.{held-clauses, held-uses, held-last}
 
 module _ (Held : Game → Type 0) where
   pub answers-none : Answers Held [] Success
@@ -36,7 +36,15 @@ module _ (Held : Game → Type 0) where
     pub answers-past : (r : Refusal) → f ≡ Nowhere → Answers Held rest r → Answers Held (x ∷ rest) r
     answers-past r e a = record { ruled = λ G h. inr (subst (Finds (x .Broken G)) e (s .finds G h), a .ruled G h) }
 
-pub ruleset answering = (answers-none, answers-here, answers-past)
+-- what was found of clauses, or of edges alone, is found where both are held
+module _ (kinds heads starts literals owners : List ℕ) (Broken : Game → ℕ → Type 0) (f : Found) where
+  pub by-clauses : Searched (HeldClauses kinds heads starts literals) Broken f → Searched (HeldUses kinds heads starts literals owners) Broken f
+  by-clauses s = record { finds = λ G h. s .finds G (h .clauses) }
+
+  pub by-edges : Searched (HeldEdges kinds owners literals) Broken f → Searched (HeldUses kinds heads starts literals owners) Broken f
+  by-edges s = record { finds = λ G h. s .finds G (h .edges) }
+
+pub ruleset answering = (answers-none, answers-here, answers-past, by-clauses, by-edges)
 
 -- ---- rows joined: a refusal stands whatever follows; where nothing is refused, what follows decides
 
@@ -101,31 +109,31 @@ pub ruleset lasting = (refused-is, last-refused, last-seat, last-done)
 -- ---- all of them
 
 module _ (kinds firsts heads starts literals owners : List ℕ) (seats : ℕ) where
-  module _ (r : Refusal) (a : Answers (HeldClauses kinds heads starts literals) clauseRules r) (n : ℕ) (en : n ≡ numberOf r) where
-    pub all-clauses : (n ≡ 0 → ⊥) → (j : Judgement) → j ≡ refusedBy r → Judges (Held kinds firsts heads starts literals owners seats) Ruled j
-    all-clauses ne j ej =
+  module _ (r : Refusal) (a : Answers (HeldClauses kinds heads starts literals) headRules r) (n : ℕ) (en : n ≡ numberOf r) where
+    pub all-heads : (n ≡ 0 → ⊥) → (j : Judgement) → j ≡ refusedBy r → Judges (Held kinds firsts heads starts literals owners seats) Ruled j
+    all-heads ne j ej =
         let z : numberOf r ≡ 0 → ⊥ = λ e. ne (en ∙ e) in
-        rw ej (refused-judges _ Ruled r z (λ G h. in-stop G (dependenceRules ++ lastRules) clauseRules r (subst (RuledIn clauseRules G) (verdict-unfit G r z) (a .ruled G (held-clauses h)))))
+        rw ej (refused-judges _ Ruled r z (λ G h. in-stop G (useRules ++ lastRules) headRules r (subst (RuledIn headRules G) (verdict-unfit G r z) (a .ruled G (held-clauses h)))))
 
     module _ (e : n ≡ 0) where
-      past-clauses : (G : Game) → Held kinds firsts heads starts literals owners seats G → (v : Verdict) → RuledIn (dependenceRules ++ lastRules) G v → Ruled G v
-      past-clauses G h v l = in-join G (dependenceRules ++ lastRules) clauseRules v (subst (RuledIn clauseRules G) (verdict-fit G r (sym en ∙ e)) (a .ruled G (held-clauses h))) l
+      past-heads : (G : Game) → Held kinds firsts heads starts literals owners seats G → (v : Verdict) → RuledIn (useRules ++ lastRules) G v → Ruled G v
+      past-heads G h v l = in-join G (useRules ++ lastRules) headRules v (subst (RuledIn headRules G) (verdict-fit G r (sym en ∙ e)) (a .ruled G (held-clauses h))) l
 
-      module _ (r′ : Refusal) (a′ : Answers (HeldEdges kinds owners literals) dependenceRules r′) (n′ : ℕ) (en′ : n′ ≡ numberOf r′) where
-        pub all-dependence : (n′ ≡ 0 → ⊥) → (j : Judgement) → j ≡ refusedBy r′ → Judges (Held kinds firsts heads starts literals owners seats) Ruled j
-        all-dependence ne j ej =
+      module _ (r′ : Refusal) (a′ : Answers (HeldUses kinds heads starts literals owners) useRules r′) (n′ : ℕ) (en′ : n′ ≡ numberOf r′) where
+        pub all-uses : (n′ ≡ 0 → ⊥) → (j : Judgement) → j ≡ refusedBy r′ → Judges (Held kinds firsts heads starts literals owners seats) Ruled j
+        all-uses ne j ej =
             let z : numberOf r′ ≡ 0 → ⊥ = λ e. ne (en′ ∙ e) in
-            rw ej (refused-judges _ Ruled r′ z (λ G h. past-clauses G h (unfit r′)
-            (in-stop G lastRules dependenceRules r′ (subst (RuledIn dependenceRules G) (verdict-unfit G r′ z) (a′ .ruled G (held-edges h))))))
+            rw ej (refused-judges _ Ruled r′ z (λ G h. past-heads G h (unfit r′)
+            (in-stop G lastRules useRules r′ (subst (RuledIn useRules G) (verdict-unfit G r′ z) (a′ .ruled G (held-uses h))))))
 
         pub all-last : n′ ≡ 0 → (j : Judgement) → Judges (HeldLast kinds firsts heads owners literals seats) (RuledIn lastRules) j
             → Judges (Held kinds firsts heads starts literals owners seats) Ruled j
         all-last e′ j l = record {
-          ruled = λ G h. past-clauses G h (verdictOf G (j .refusal))
-              (in-join G lastRules dependenceRules (verdictOf G (j .refusal)) (subst (RuledIn dependenceRules G) (verdict-fit G r′ (sym en′ ∙ e′)) (a′ .ruled G (held-edges h))) (l .ruled G (held-last h)));
+          ruled = λ G h. past-heads G h (verdictOf G (j .refusal))
+              (in-join G lastRules useRules (verdictOf G (j .refusal)) (subst (RuledIn useRules G) (verdict-fit G r′ (sym en′ ∙ e′)) (a′ .ruled G (held-uses h))) (l .ruled G (held-last h)));
           levels = λ z G h. l .levels z G (held-last h);
           blank-levels = l .blank-levels;
           blank-top = l .blank-top;
         }
 
-pub ruleset judging = (all-clauses, all-dependence, all-last)
+pub ruleset judging = (all-heads, all-uses, all-last)

@@ -3,7 +3,7 @@ ghost use mathlib.Core.Path.{_≡_};
 ghost use Rattle.gdl.specs.Flags.{blank};
 ghost use Rattle.rules.specs.Rules.{Ruled};
 ghost use Rattle.judge.specs.Arrays.{HeldClauses, HeldEdges, ClausesShaped, EdgesShaped};
-ghost use Rattle.judge.specs.Judgement.{clauseRules, dependenceRules, lastRules, RuledIn, Answers, Held, HoldsGame, LevelsOf, Judges, LastAsked, HeldLast, refusedBy};
+ghost use Rattle.judge.specs.Judgement.{headRules, useRules, lastRules, RuledIn, Answers, Held, HoldsGame, LevelsOf, Judges, UsesAsked, HeldUses, LastAsked, HeldLast, refusedBy};
 
 mod clauses; // 6, 7 and 8
 mod found;
@@ -13,13 +13,9 @@ mod seats; // 12
 
 use clauses::ClauseRule;
 use clauses::lowest_breaking;
+use clauses::lowest_misusing;
 use found::Found;
-use kinds::DOES;
-use kinds::GOAL;
-use kinds::INIT;
-use kinds::LEGAL;
-use kinds::TERMINAL;
-use kinds::TRUE;
+use leaning::DependenceRule;
 use leaning::lowest_leaning;
 use levels::Numbering;
 use refusals::Refusal;
@@ -45,54 +41,44 @@ fn wide(x: u16) -> usize
     x as usize
 }
 
-// 6, 7 and 8.
-fn judge_clauses(kinds: &[u16], heads: &[u16], starts: &[u16], literals: &[u16]) -> Refusal
+// 6 and 7.
+fn judge_heads(kinds: &[u16], heads: &[u16], starts: &[u16], literals: &[u16]) -> Refusal
     requires { ⌜ ClausesShaped (now kinds) (now heads) (now starts) (now literals) ⌝ }
-    ensures { λ r. ⌜ Answers (HeldClauses (now (kinds .entry)) (now (heads .entry)) (now (starts .entry)) (now (literals .entry))) clauseRules r ⌝ }
+    ensures { λ r. ⌜ Answers (HeldClauses (now (kinds .entry)) (now (heads .entry)) (now (starts .entry)) (now (literals .entry))) headRules r ⌝ }
 {
     match lowest_breaking(ClauseRule::Role, kinds, heads, starts, literals) {
         Found::At(i) => return Refusal::RoleWithBody(i),
         Found::Nowhere => {}
     }
     match lowest_breaking(ClauseRule::Head, kinds, heads, starts, literals) {
-        Found::At(i) => return Refusal::NeverHead(i),
-        Found::Nowhere => {}
-    }
-    match lowest_breaking(ClauseRule::Body, kinds, heads, starts, literals) {
-        Found::At(i) => Refusal::NeverInBody(i),
+        Found::At(i) => Refusal::NeverHead(i),
         Found::Nowhere => Refusal::Success,
     }
 }
 
-// 9 and 10, over one index of the uses.
-fn judge_dependence(kinds: &[u16], owners: &[u16], literals: &[u16]) -> Refusal
-    requires { ⌜ EdgesShaped (now kinds) (now owners) (now literals) ⌝ }
-    ensures { λ r. ⌜ Answers (HeldEdges (now (kinds .entry)) (now (owners .entry)) (now (literals .entry))) dependenceRules r ⌝ }
+// 8, 9 and 10, over one index of the uses.
+fn judge_uses(
+    kinds: &[u16],
+    heads: &[u16],
+    starts: &[u16],
+    literals: &[u16],
+    owners: &[u16],
+) -> Refusal
+    requires { ⌜ UsesAsked (now kinds) (now heads) (now starts) (now literals) (now owners) ⌝ }
+    ensures { λ r. ⌜ Answers (HeldUses (now (kinds .entry)) (now (heads .entry)) (now (starts .entry)) (now (literals .entry)) (now (owners .entry))) useRules r ⌝ }
 {
     let mut first = edges::uses::no_uses();
     let mut next = edges::uses::no_nexts();
     edges::uses::index_uses(literals, &mut first, &mut next);
-    match lowest_leaning(
-        kinds,
-        owners,
-        literals,
-        &first,
-        &next,
-        &[INIT],
-        &[TRUE, DOES, LEGAL, TERMINAL, GOAL],
-    ) {
+    match lowest_misusing(kinds, heads, starts, literals, &first) {
+        Found::At(i) => return Refusal::NeverInBody(i),
+        Found::Nowhere => {}
+    }
+    match lowest_leaning(DependenceRule::Init, kinds, owners, literals, &first, &next) {
         Found::At(p) => return Refusal::InitRule(p),
         Found::Nowhere => {}
     }
-    match lowest_leaning(
-        kinds,
-        owners,
-        literals,
-        &first,
-        &next,
-        &[LEGAL, TERMINAL, GOAL],
-        &[DOES],
-    ) {
+    match lowest_leaning(DependenceRule::Does, kinds, owners, literals, &first, &next) {
         Found::At(p) => Refusal::DoesRule(p),
         Found::Nowhere => Refusal::Success,
     }
@@ -168,13 +154,13 @@ pub fn judge_arrays(
     requires { ⌜ HoldsGame (now kinds) (now firsts) (now heads) (now starts) (now literals) (now owners) seats ⌝ }
     ensures { λ j. ⌜ Judges (Held (now (kinds .entry)) (now (firsts .entry)) (now (heads .entry)) (now (starts .entry)) (now (literals .entry)) (now (owners .entry)) seats) Ruled j ⌝ }
 {
-    let clauses = judge_clauses(kinds, heads, starts, literals);
-    if number_of(clauses) != 0 {
-        return refused(clauses);
+    let by_heads = judge_heads(kinds, heads, starts, literals);
+    if number_of(by_heads) != 0 {
+        return refused(by_heads);
     }
-    let dependence = judge_dependence(kinds, owners, literals);
-    if number_of(dependence) != 0 {
-        return refused(dependence);
+    let by_uses = judge_uses(kinds, heads, starts, literals, owners);
+    if number_of(by_uses) != 0 {
+        return refused(by_uses);
     }
     judge_last(kinds, firsts, heads, owners, literals, seats)
 }
