@@ -84,20 +84,20 @@ pub record Levelled (G : Game) (v : List ℕ) (top : ℕ) : Type 0 where
 -- the levels, or the place of 11
 abbrev pub LevelsOr11 : Game → Numbering → List ℕ → Type 0
 LevelsOr11 G (Allowed top) v = Levelled G v top
-LevelsOr11 G (Refused p) v = Lowest (LevelsBroken G) p
+LevelsOr11 G (Refused p) v = Lowest (LevelsBroken G) p × (v ≡ blank 1024)
 
 pub record LevelsOf (Held : Game → Type 0) (n : Numbering) (v : List ℕ) : Type 0 where
   pub says : (G : Game) → Held G → LevelsOr11 G n v
 
--- the verdict, and the levels where it accepts; else everything is blank
-pub record Judges (Held : Game → Type 0) (Rules : Game → Verdict → Type 0) (j : Judgement) : Type 0 where
+-- the verdict, and the levels v where it accepts; else everything is blank
+pub record Judges (Held : Game → Type 0) (Rules : Game → Verdict → Type 0) (j : Judgement) (v : List ℕ) : Type 0 where
   pub ruled : (G : Game) → Held G → Rules G (verdictOf G (j .refusal))
-  pub levels : numberOf (j .refusal) ≡ 0 → (G : Game) → Held G → Levelled G (j .levels) (j .top)
-  pub blank-levels : (numberOf (j .refusal) ≡ 0 → ⊥) → j .levels ≡ blank 1024
+  pub levels : numberOf (j .refusal) ≡ 0 → (G : Game) → Held G → Levelled G v (j .top)
+  pub blank-levels : (numberOf (j .refusal) ≡ 0 → ⊥) → (G : Game) → Held G → v ≡ blank 1024
   pub blank-top : (numberOf (j .refusal) ≡ 0 → ⊥) → j .top ≡ 0
 
 abbrev pub refusedBy : Refusal → Judgement
-refusedBy r = record { refusal = r; levels = blank 1024; top = 0 }
+refusedBy r = record { refusal = r; top = 0 }
 
 -- the arrays of 8, 9 and 10
 pub record HeldUses (kinds heads starts literals owners : List ℕ) (G : Game) : Type 0 where

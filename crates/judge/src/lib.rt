@@ -22,16 +22,9 @@ use refusals::Refusal;
 use refusals::number_of;
 use seats::lowest_seat;
 
-// The levels in 1,024 places, or the place of 11.
-struct Numbered {
-    numbering: Numbering,
-    levels: [u16; 1024],
-}
-
-// A refusal of 6 to 12, all else blank; or Success, the least level of each atom and the first number above the levels.
+// A refusal of 6 to 12; or Success and the first number above the levels, which stand in lent room.
 pub struct Judgement {
     pub refusal: Refusal,
-    pub levels: [u16; 1024],
     pub top: u16,
 }
 
@@ -93,22 +86,16 @@ fn no_levels() -> [u16; 1024]
 fn refused(refusal: Refusal) -> Judgement
     ensures { λ j. ⌜ j ≡ refusedBy refusal ⌝ }
 {
-    Judgement {
-        refusal,
-        levels: no_levels(),
-        top: 0,
-    }
+    Judgement { refusal, top: 0 }
 }
 
-// 11.
-fn number_atoms(kinds: &[u16], owners: &[u16], literals: &[u16]) -> Numbered
-    requires { ⌜ EdgesShaped (now kinds) (now owners) (now literals) ⌝ }
-    ensures { λ r. ⌜ LevelsOf (HeldEdges (now (kinds .entry)) (now (owners .entry)) (now (literals .entry))) (r .numbering) (r .levels) ⌝ }
+// 11: the levels in 1,024 places, or the place.
+fn number_atoms(kinds: &[u16], owners: &[u16], literals: &[u16], levels: &mut [u16]) -> Numbering
+    requires { ⌜ EdgesShaped (now kinds) (now owners) (now literals) × (now levels ≡ blank 1024) ⌝ }
+    ensures { λ r. ⌜ LevelsOf (HeldEdges (now (kinds .entry)) (now (owners .entry)) (now (literals .entry))) r (now (levels .exit)) ⌝ }
 {
-    let mut levels = no_levels();
     let n = kinds.len();
-    let numbering = levels::number_levels(owners, literals, &mut levels[0..n]);
-    Numbered { numbering, levels }
+    levels::number_levels(owners, literals, &mut levels[0..n])
 }
 
 // 11 and 12, and the levels.
@@ -119,29 +106,27 @@ fn judge_last(
     owners: &[u16],
     literals: &[u16],
     seats: usize,
+    levels: &mut [u16; 1024],
 ) -> Judgement
-    requires { ⌜ LastAsked (now kinds) (now firsts) (now heads) (now owners) (now literals) ⌝ }
-    ensures { λ j. ⌜ Judges (HeldLast (now (kinds .entry)) (now (firsts .entry)) (now (heads .entry)) (now (owners .entry)) (now (literals .entry)) seats) (RuledIn lastRules) j ⌝ }
+    requires { ⌜ LastAsked (now kinds) (now firsts) (now heads) (now owners) (now literals) × (now levels ≡ blank 1024) ⌝ }
+    ensures { λ j. ⌜ Judges (HeldLast (now (kinds .entry)) (now (firsts .entry)) (now (heads .entry)) (now (owners .entry)) (now (literals .entry)) seats) (RuledIn lastRules) j (now (levels .exit)) ⌝ }
 {
-    let numbered = number_atoms(kinds, owners, literals);
-    let numbering = numbered.numbering;
-    match numbering {
+    match number_atoms(kinds, owners, literals, levels) {
         Numbering::Refused(p) => refused(Refusal::NoLevels(p)),
         Numbering::Allowed(top) => match lowest_seat(kinds, firsts, heads, seats) {
-            Found::At(s) => refused(Refusal::NoRoleFact(s)),
-            Found::Nowhere => {
-                let levels = numbered.levels;
-                Judgement {
-                    refusal: Refusal::Success,
-                    levels,
-                    top,
-                }
+            Found::At(s) => {
+                *levels = no_levels();
+                refused(Refusal::NoRoleFact(s))
             }
+            Found::Nowhere => Judgement {
+                refusal: Refusal::Success,
+                top,
+            },
         },
     }
 }
 
-// The arrays of a table that was read: the first rule that is broken, at the lowest place, or the least levels of the atoms.
+// The arrays of a table that was read: the first rule that is broken, at the lowest place, or the least levels of the atoms in lent room.
 pub fn judge_arrays(
     kinds: &[u16],
     firsts: &[u16],
@@ -150,9 +135,10 @@ pub fn judge_arrays(
     literals: &[u16],
     owners: &[u16],
     seats: usize,
+    levels: &mut [u16; 1024],
 ) -> Judgement
-    requires { ⌜ HoldsGame (now kinds) (now firsts) (now heads) (now starts) (now literals) (now owners) seats ⌝ }
-    ensures { λ j. ⌜ Judges (Held (now (kinds .entry)) (now (firsts .entry)) (now (heads .entry)) (now (starts .entry)) (now (literals .entry)) (now (owners .entry)) seats) Ruled j ⌝ }
+    requires { ⌜ HoldsGame (now kinds) (now firsts) (now heads) (now starts) (now literals) (now owners) seats × (now levels ≡ blank 1024) ⌝ }
+    ensures { λ j. ⌜ Judges (Held (now (kinds .entry)) (now (firsts .entry)) (now (heads .entry)) (now (starts .entry)) (now (literals .entry)) (now (owners .entry)) seats) Ruled j (now (levels .exit)) ⌝ }
 {
     let by_heads = judge_heads(kinds, heads, starts, literals);
     if number_of(by_heads) != 0 {
@@ -162,5 +148,5 @@ pub fn judge_arrays(
     if number_of(by_uses) != 0 {
         return refused(by_uses);
     }
-    judge_last(kinds, firsts, heads, owners, literals, seats)
+    judge_last(kinds, firsts, heads, owners, literals, seats, levels)
 }
