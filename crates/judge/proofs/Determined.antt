@@ -38,21 +38,22 @@ module _ (G : Game) (v w : List ℕ) (t u : ℕ) (a : Levelled G v t) (b : Level
   top-one : t ≡ u
   top-one = le-antisymm (a .top-is .first u (λ p lt. omega (arith, level-one p, b .top-is .above p lt))) (b .top-is .first t (λ p lt. omega (arith, level-one p, a .top-is .above p lt)))
 
-judgement-one : (r q : Refusal) (v w : List ℕ) (t u : ℕ) → r ≡ q → v ≡ w → t ≡ u → _≡_ {A = Judgement} (record { refusal = r; levels = v; top = t }) (record { refusal = q; levels = w; top = u })
-judgement-one r q v w t u er ev et = cc
+judgement-one : (r q : Refusal) (t u : ℕ) → r ≡ q → t ≡ u → _≡_ {A = Judgement} (record { refusal = r; top = t }) (record { refusal = q; top = u })
+judgement-one r q t u er et = cc
 
-pub judges-determined : (Held : Game → Type 0) (G : Game) → Held G → (j k : Judgement) → Judges Held Ruled j → Judges Held Ruled k → j ≡ k
-judges-determined Held G h j k a b = go (eqb (numberOf (j .refusal)) 0) refl
-  where
-    same : j .refusal ≡ k .refusal
-    same = verdict-one G (j .refusal) (k .refusal) (ruled-determined G _ _ (a .ruled G h) (b .ruled G h))
+module _ (Held : Game → Type 0) (G : Game) (h : Held G) (j k : Judgement) (v w : List ℕ) (a : Judges Held Ruled j v) (b : Judges Held Ruled k w) where
+  pub judges-determined : (j ≡ k) × (v ≡ w)
+  judges-determined = go (eqb (numberOf (j .refusal)) 0) refl
+    where
+      same : j .refusal ≡ k .refusal
+      same = verdict-one G (j .refusal) (k .refusal) (ruled-determined G _ _ (a .ruled G h) (b .ruled G h))
 
-    go : (z : Bool) → eqb (numberOf (j .refusal)) 0 ≡ z → j ≡ k
-    go true e =
-        let x : Levelled G (j .levels) (j .top) = a .levels (eqb-true (numberOf (j .refusal)) 0 e) G h in
-        let y : Levelled G (k .levels) (k .top) = b .levels (ap numberOf (sym same) ∙ eqb-true (numberOf (j .refusal)) 0 e) G h in
-        judgement-one _ _ _ _ _ _ same (levels-one G _ _ _ _ x y) (top-one G _ _ _ _ x y)
-    go false e =
-        let n : numberOf (j .refusal) ≡ 0 → ⊥ = eqb-false (numberOf (j .refusal)) 0 e in
-        let m : numberOf (k .refusal) ≡ 0 → ⊥ = λ z. n (ap numberOf same ∙ z) in
-        judgement-one _ _ _ _ _ _ same (a .blank-levels n ∙ sym (b .blank-levels m)) (a .blank-top n ∙ sym (b .blank-top m))
+      go : (z : Bool) → eqb (numberOf (j .refusal)) 0 ≡ z → (j ≡ k) × (v ≡ w)
+      go true e =
+          let x : Levelled G v (j .top) = a .levels (eqb-true (numberOf (j .refusal)) 0 e) G h in
+          let y : Levelled G w (k .top) = b .levels (ap numberOf (sym same) ∙ eqb-true (numberOf (j .refusal)) 0 e) G h in
+          (judgement-one _ _ _ _ same (top-one G _ _ _ _ x y), levels-one G _ _ _ _ x y)
+      go false e =
+          let n : numberOf (j .refusal) ≡ 0 → ⊥ = eqb-false (numberOf (j .refusal)) 0 e in
+          let m : numberOf (k .refusal) ≡ 0 → ⊥ = λ z. n (ap numberOf same ∙ z) in
+          (judgement-one _ _ _ _ same (a .blank-top n ∙ sym (b .blank-top m)), a .blank-levels n G h ∙ sym (b .blank-levels m G h))

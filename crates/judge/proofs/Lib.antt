@@ -1,6 +1,7 @@
 pub mod Searching
 pub mod Holding
 pub mod Breaking
+pub mod Misusing
 pub mod Seating
 pub mod Marking
 pub mod Numbering

@@ -16,13 +16,15 @@ use Rattle.gdl.specs.Graph.{itself, Depends}
 use Rattle.gdl.proofs.Tests.{and-left, and-right, and-both, eq→eqb}
 use Rattle.edges.specs.Graph.{Drawn}
 use Rattle.edges.specs.Closure.{SeedsBelow, ClosedBack}
-use Rattle.edges.specs.Uses.{noUses, noNexts, Unindexed, Indexed}
 use Rattle.edges.specs.Marks.{noMarks}
-use Rattle.edges.proofs.Drawing.{clauses-drawn, graph-sized}
+use Rattle.edges.proofs.Drawing.{clauses-drawn}
 use Rattle.edges.proofs.Depending.{OnSeed, closed-back}
 use Rattle.rules.specs.Rules.{oneOf, Leans}
 use Rattle.judge.specs.Answers.{Tested, Tells}
-use Rattle.judge.specs.Arrays.{Sown, HeldEdges, EdgesShaped, EdgesIndexed, Rests, MarksOf, LeanAsked, MarkAsked}
+use Rattle.judge.specs.Arrays.{Sown, HeldEdges, EdgesShaped, EdgesIndexed, theseOf, thoseOf, Rests, MarksOf, MarkAsked}
+use Rattle.judge.specs.declared.leaning.DependenceRule.{DependenceRule}
+use Rattle.judge.specs.declared.leaning.DependenceRule.the-variants.{Init, Does}
+use Rattle.rules.specs.Judged.{disjoint}
 use Rattle.rules.proofs.Finding.{apart}
 use Rattle.judge.proofs.Searching.{Bounded}
 use Rattle.judge.proofs.Holding.{kind-held}
@@ -92,20 +94,6 @@ module _ (kinds owners literals : List ℕ) (G : Game) (h : HeldEdges kinds owne
   pub held-drawn : Drawn itself (G .clauses) owners literals (length kinds)
   held-drawn = rw (h .owners-are, h .literals-are, kinds-many) (clauses-drawn (G .clauses) (length (G .atoms)) (h .limits .heads))
 
--- the index of the uses, before it is made and after
-module _ (kinds owners literals first next : List ℕ) (a : EdgesShaped kinds owners literals) where
-  pub uses-unindexed : first ≡ noUses → next ≡ noNexts → Unindexed literals first next
-  uses-unindexed f n = record {
-    ends = record { nodes = λ k lt. omega (arith, a .graph .ends k lt, a .atoms); edges = omega (arith, a .few) };
-    no-firsts = f;
-    no-nexts = n;
-  }
-
-  pub uses-indexed : Indexed literals first next → EdgesIndexed kinds owners literals first next
-  uses-indexed i = record { shaped = a; index = record { sized = graph-sized (a .graph) (a .atoms) (omega (arith, a .few)); chained = i .chained } }
-
-pub ruleset indexing = (uses-unindexed, uses-indexed)
-
 pub seeds-below : (kinds owners literals those seeds : List ℕ) → EdgesShaped kinds owners literals → Sown kinds those (length kinds) seeds → SeedsBelow seeds (length kinds)
 seeds-below kinds owners literals those seeds a s = record { few = a .atoms; past = λ p le one. omega (arith, s .past p le) }
 
@@ -130,34 +118,52 @@ seeds-marked kinds owners literals those seeds marks a s c = record { rests = λ
 
 -- ---- an atom of these kinds that leans
 
-module _ (kinds owners literals these those : List ℕ) where
-  pub leaning-atom : Bounded (HeldEdges kinds owners literals) (Leans these those) (length kinds)
+module _ (rule : DependenceRule) (kind : ℕ) (r : Bool) where
+  pub these-init : rule ≡ Init → r ≡ oneOf (theseOf Init) kind → r ≡ oneOf (theseOf rule) kind
+  these-init e t = rw e t
+
+  pub these-does : rule ≡ Does → r ≡ oneOf (theseOf Does) kind → r ≡ oneOf (theseOf rule) kind
+  these-does e t = rw e t
+
+  pub those-init : rule ≡ Init → r ≡ oneOf (thoseOf Init) kind → r ≡ oneOf (thoseOf rule) kind
+  those-init e t = rw e t
+
+  pub those-does : rule ≡ Does → r ≡ oneOf (thoseOf Does) kind → r ≡ oneOf (thoseOf rule) kind
+  those-does e t = rw e t
+
+-- none of these kinds is one of those
+rule-apart : (rule : DependenceRule) → T (disjoint (theseOf rule) (thoseOf rule))
+rule-apart Init = tt
+rule-apart Does = tt
+
+module _ (rule : DependenceRule) (kinds owners literals : List ℕ) where
+  pub leaning-atom : Bounded (HeldEdges kinds owners literals) (Leans (theseOf rule) (thoseOf rule)) (length kinds)
   leaning-atom = record { below = λ G h p b. omega (arith, b .atom, kinds-many kinds owners literals G h) }
 
-  module _ (first next : List ℕ) (a : LeanAsked kinds owners literals first next these those) (p : ℕ) (lt : p < length kinds) where
+  module _ (first next : List ℕ) (a : EdgesIndexed kinds owners literals first next) (p : ℕ) (lt : p < length kinds) where
     pub asked-mark : MarkAsked kinds p
-    asked-mark = record { kind = lt; mark = omega (arith, a .indexed .shaped .atoms) }
+    asked-mark = record { kind = lt; mark = omega (arith, a .shaped .atoms) }
 
-    module _ (marks : List ℕ) (m : MarksOf (HeldEdges kinds owners literals) those marks) where
+    module _ (marks : List ℕ) (m : MarksOf (HeldEdges kinds owners literals) (thoseOf rule) marks) where
       module _ (G : Game) (h : HeldEdges kinds owners literals G) where
         kind-is : getD kinds p 0 ≡ kindOf G p
         kind-is = kind-held G kinds (h .kinds-are) p
 
-        found : T (oneOf these (kindOf G p)) → Rests those G p → Leans these those G p
+        found : T (oneOf (theseOf rule) (kindOf G p)) → Rests (thoseOf rule) G p → Leans (theseOf rule) (thoseOf rule) G p
         found t r = go (r .way)
           where
-            go : (p ≡ r .on) ⊎ Depends itself (G .clauses) p (r .on) → Leans these those G p
-            go (inl e) = absurd (apart these those (a .apart) (kindOf G p) t (subst (λ (q : ℕ). T (oneOf those (kindOf G q))) (sym e) (r .kind)))
+            go : (p ≡ r .on) ⊎ Depends itself (G .clauses) p (r .on) → Leans (theseOf rule) (thoseOf rule) G p
+            go (inl e) = absurd (apart (theseOf rule) (thoseOf rule) (rule-apart rule) (kindOf G p) t (subst (λ (q : ℕ). T (oneOf (thoseOf rule) (kindOf G q))) (sym e) (r .kind)))
             go (inr d) = record { atom = omega (arith, kinds-many kinds owners literals G h); kind = t; on = r .on; other = r .atom; otherKind = r .kind; depends = d }
 
-        told : (b : Bool) → b ≡ (oneOf these (kindOf G p) && on marks p) → Tells (Leans these those G p) b
+        told : (b : Bool) → b ≡ (oneOf (theseOf rule) (kindOf G p) && on marks p) → Tells (Leans (theseOf rule) (thoseOf rule) G p) b
         told true e =
             let t = subst T e tt in
-            found (and-left (oneOf these (kindOf G p)) (on marks p) t) (m .rests G h p .0 (and-right (oneOf these (kindOf G p)) (on marks p) t))
-        told false e = λ l. subst T (sym e) (and-both (oneOf these (kindOf G p)) (on marks p) (l .kind)
+            found (and-left (oneOf (theseOf rule) (kindOf G p)) (on marks p) t) (m .rests G h p .0 (and-right (oneOf (theseOf rule) (kindOf G p)) (on marks p) t))
+        told false e = λ l. subst T (sym e) (and-both (oneOf (theseOf rule) (kindOf G p)) (on marks p) (l .kind)
             (m .rests G h p .1 (record { on = l .on; atom = l .other; kind = l .otherKind; way = inr (l .depends) })))
 
-      pub lean-tells : (b : Bool) → b ≡ (oneOf these (getD kinds p 0) && on marks p) → Tested (HeldEdges kinds owners literals) (Leans these those) p b
-      lean-tells b e = record { tells = λ G h. told G h b (e ∙ ap (λ (k : ℕ). oneOf these k && on marks p) (kind-is G h)) }
+      pub lean-tells : (b : Bool) → b ≡ (oneOf (theseOf rule) (getD kinds p 0) && on marks p) → Tested (HeldEdges kinds owners literals) (Leans (theseOf rule) (thoseOf rule)) p b
+      lean-tells b e = record { tells = λ G h. told G h b (e ∙ ap (λ (k : ℕ). oneOf (theseOf rule) k && on marks p) (kind-is G h)) }
 
-pub ruleset leaning = (sown-start, sown-more, sown-all, mark-both, mark-none, seeds-below, seeds-marked, leaning-atom, asked-mark, lean-tells)
+pub ruleset leaning = (these-init, these-does, those-init, those-does, sown-start, sown-more, sown-all, mark-both, mark-none, seeds-below, seeds-marked, leaning-atom, asked-mark, lean-tells)

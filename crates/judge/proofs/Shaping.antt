@@ -7,9 +7,10 @@ use lib.ListN.{length, getD, length-map, length-append}
 use Rattle.gdl.specs.Game.{Clause, Game, clauseAt}
 use Rattle.gdl.specs.Layout.{startsFrom, literalsOf}
 use Rattle.edges.specs.Graph.{Graph}
-use Rattle.edges.proofs.Drawing.{clauses-graph}
-use Rattle.judge.specs.Arrays.{HeldClauses, ClausesShaped, RolesShaped, HeldEdges, EdgesShaped}
-use Rattle.judge.specs.Judgement.{Held, HoldsGame, HeldLast, LastAsked}
+use Rattle.edges.specs.Uses.{noUses, noNexts, Unindexed, Indexed}
+use Rattle.edges.proofs.Drawing.{clauses-graph, graph-sized}
+use Rattle.judge.specs.Arrays.{HeldClauses, ClausesShaped, ClausesUsed, RolesShaped, HeldEdges, EdgesShaped, EdgesIndexed}
+use Rattle.judge.specs.Judgement.{Held, HoldsGame, HeldUses, UsesAsked, HeldLast, LastAsked}
 use Rattle.rules.proofs.Finding.{at-mem}
 use Rattle.judge.proofs.Holding.{clauses-held, head-held, end-held}
 
@@ -29,6 +30,9 @@ module _ {kinds firsts heads starts literals owners : List ℕ} {seats : ℕ} {G
 
   pub held-edges : HeldEdges kinds owners literals G
   held-edges = record { limits = h .limits; kinds-are = h .kinds-are; owners-are = h .owners-are; literals-are = h .literals-are }
+
+  pub held-uses : HeldUses kinds heads starts literals owners G
+  held-uses = record { clauses = held-clauses; edges = held-edges }
 
   pub held-last : HeldLast kinds firsts heads owners literals seats G
   held-last = record {
@@ -68,10 +72,29 @@ module _ (kinds firsts heads starts literals owners : List ℕ) (seats : ℕ) (s
   pub clauses-shaped : ClausesShaped kinds heads starts literals
   clauses-shaped = clauses-shape (s .held)
 
-  pub edges-shaped : EdgesShaped kinds owners literals
-  edges-shaped = edges-shape (s .held)
+  pub uses-asked : UsesAsked kinds heads starts literals owners
+  uses-asked = record { clauses = clauses-shape (s .held); edges = edges-shape (s .held) }
 
   pub last-asked : LastAsked kinds firsts heads owners literals
   last-asked = record { edges = edges-shape (s .held); roles = roles-shape (s .held) }
 
-pub ruleset shapes = (clauses-shaped, edges-shaped, last-asked)
+pub ruleset shapes = (clauses-shaped, uses-asked, last-asked)
+
+-- ---- the index of the uses, before it is made and after
+
+module _ (kinds heads starts literals owners first next : List ℕ) (a : UsesAsked kinds heads starts literals owners) where
+  pub uses-unindexed : first ≡ noUses → next ≡ noNexts → Unindexed literals first next
+  uses-unindexed f n = record {
+    ends = record { nodes = λ k lt. omega (arith, a .edges .graph .ends k lt, a .edges .atoms); edges = omega (arith, a .edges .few) };
+    no-firsts = f;
+    no-nexts = n;
+  }
+
+  module _ (i : Indexed literals first next) where
+    pub clauses-used : ClausesUsed kinds heads starts literals first
+    clauses-used = record { shaped = a .clauses; atoms = a .edges .atoms; firsts = i .chained .firsts }
+
+    pub edges-indexed : EdgesIndexed kinds owners literals first next
+    edges-indexed = record { shaped = a .edges; index = record { sized = graph-sized (a .edges .graph) (a .edges .atoms) (omega (arith, a .edges .few)); chained = i .chained } }
+
+pub ruleset indexing = (uses-unindexed, clauses-used, edges-indexed)

@@ -2,21 +2,23 @@
 use mathlib.Core.Path.{_≡_}
 use mathlib.Core.Logic.{_⊎_, _↔_}
 use mathlib.Core.Bool.{Bool, _&&_}
-use mathlib.Core.List.{List}
+use mathlib.Core.List.{List, [], _∷_}
 use Prim.Native.Nat.{ℕ, _+_, _-_, _/_, _≤_, _<_}
 use lib.Dec.{T, eqb}
 use lib.ListN.{length, getD, take, drop}
-use Rattle.gdl.specs.Game.{Game, roleKind, kindOf}
+use Rattle.gdl.specs.Game.{Game, roleKind, initKind, trueKind, doesKind, legalKind, nextKind, seesKind, terminalKind, goalKind, kindOf}
 use Rattle.gdl.specs.Layout.{kindsOf, firstsOf, headsOf, startsFrom, literalsOf, ownersOf}
 use Rattle.gdl.specs.Flags.{on, bit}
 use Rattle.gdl.specs.Graph.{itself, Depends}
 use Rattle.edges.specs.Graph.{Graph}
-use Rattle.edges.specs.Uses.{Index}
+use Rattle.edges.specs.Uses.{FirstUse, Index}
 use Rattle.rules.specs.Rules.{oneOf, RoleBroken, HeadBroken, BodyBroken}
-use Rattle.rules.specs.Judged.{disjoint}
 use Rattle.rules.specs.Limits.{Limits}
+use Rattle.judge.specs.Answers.{Tells}
 use Rattle.judge.specs.declared.clauses.ClauseRule.{ClauseRule}
 use Rattle.judge.specs.declared.clauses.ClauseRule.the-variants.{Role, Head, Body}
+use Rattle.judge.specs.declared.leaning.DependenceRule.{DependenceRule}
+use Rattle.judge.specs.declared.leaning.DependenceRule.the-variants.{Init, Does}
 
 -- ---- clauses: 6, 7 and 8
 
@@ -59,6 +61,23 @@ pub record BodyAsked (kinds starts literals : List ℕ) (i : ℕ) : Type 0 where
   pub rising : getD starts i 0 ≤ getD starts (i + 1) 0
   pub ends : getD starts (i + 1) 0 ≤ length literals
   pub atoms : LiteralsOver kinds literals
+
+-- the clauses, with the first use of each atom
+pub record ClausesUsed (kinds heads starts literals first : List ℕ) : Type 0 where
+  pub shaped : ClausesShaped kinds heads starts literals
+  pub atoms : length kinds ≤ 1024
+  pub firsts : (a : ℕ) → a < 1024 → FirstUse literals a 0 (getD first a 0)
+
+-- an atom that never stands in a body has a use among so many literals
+pub record Misused (kinds first : List ℕ) (many : ℕ) : Type 0 where
+  pub atom : ℕ
+  pub within : atom < length kinds
+  pub kind : T (oneOf (initKind ∷ nextKind ∷ seesKind ∷ []) (getD kinds atom 0))
+  pub used : getD first atom 0 < many
+
+-- whether there is one
+pub record AnyMisused (kinds first : List ℕ) (many : ℕ) (r : Bool) : Type 0 where
+  pub tells : Tells (Misused kinds first many) r
 
 abbrev pub bodyAt : List ℕ → List ℕ → ℕ → List ℕ
 bodyAt starts literals i = take (getD starts (i + 1) 0 - getD starts i 0) (drop (getD starts i 0) literals)
@@ -106,6 +125,15 @@ pub record EdgesIndexed (kinds owners literals first next : List ℕ) : Type 0 w
   pub shaped : EdgesShaped kinds owners literals
   pub index : Index owners literals first next
 
+-- the rule of each case: no atom of one of these kinds depends on one of those
+abbrev pub theseOf : DependenceRule → List ℕ
+theseOf Init = initKind ∷ []
+theseOf Does = legalKind ∷ terminalKind ∷ goalKind ∷ []
+
+abbrev pub thoseOf : DependenceRule → List ℕ
+thoseOf Init = trueKind ∷ doesKind ∷ legalKind ∷ terminalKind ∷ goalKind ∷ []
+thoseOf Does = doesKind ∷ []
+
 -- p is of one of those kinds, or depends on an atom that is
 pub record Rests (those : List ℕ) (G : Game) (p : ℕ) : Type 0 where
   pub on : ℕ
@@ -116,10 +144,6 @@ pub record Rests (those : List ℕ) (G : Game) (p : ℕ) : Type 0 where
 -- a mark for each that does
 pub record MarksOf (Held : Game → Type 0) (those marks : List ℕ) : Type 0 where
   pub rests : (G : Game) → Held G → (p : ℕ) → T (on marks p) ↔ Rests those G p
-
-pub record LeanAsked (kinds owners literals first next these those : List ℕ) : Type 0 where
-  pub indexed : EdgesIndexed kinds owners literals first next
-  pub apart : T (disjoint these those)
 
 -- an atom with a kind and a place among 1,024 marks
 pub record MarkAsked (kinds : List ℕ) (p : ℕ) : Type 0 where

@@ -19,7 +19,7 @@ use Rattle.levels.specs.declared.Numbering.the-variants.{Allowed, Refused}
 use Rattle.rules.specs.Verdict.{Verdict, unfit, fit}
 use Rattle.rules.specs.Rules.{RoleBroken, HeadBroken, BodyBroken, InitBroken, DoesBroken, LevelsBroken, RoleMissing, Lowest, rule_refuses_else_}
 use Rattle.rules.specs.Limits.{Limits}
-use Rattle.judge.specs.Arrays.{HeldEdges, HeldRoles, EdgesShaped, RolesShaped}
+use Rattle.judge.specs.Arrays.{HeldClauses, HeldEdges, HeldRoles, ClausesShaped, EdgesShaped, RolesShaped}
 use Rattle.judge.specs.declared.Judgement.{Judgement}
 
 -- ---- rules in a row
@@ -34,16 +34,16 @@ abbrev pub RuledIn : List Rule → Game → Verdict → Type 0
 RuledIn [] G v = v ≡ fit G
 RuledIn (x ∷ rest) G v = (rule x .Broken G refuses x .refusal else RuledIn rest G) v
 
--- 6, 7 and 8
-abbrev pub clauseRules : List Rule
-clauseRules =
-    record { Broken = RoleBroken; refusal = RoleWithBody } ∷
-    record { Broken = HeadBroken; refusal = NeverHead } ∷
-    record { Broken = BodyBroken; refusal = NeverInBody } ∷ []
+-- 6 and 7
+abbrev pub headRules : List Rule
+headRules = record { Broken = RoleBroken; refusal = RoleWithBody } ∷ record { Broken = HeadBroken; refusal = NeverHead } ∷ []
 
--- 9 and 10
-abbrev pub dependenceRules : List Rule
-dependenceRules = record { Broken = InitBroken; refusal = InitRule } ∷ record { Broken = DoesBroken; refusal = DoesRule } ∷ []
+-- 8, 9 and 10
+abbrev pub useRules : List Rule
+useRules =
+    record { Broken = BodyBroken; refusal = NeverInBody } ∷
+    record { Broken = InitBroken; refusal = InitRule } ∷
+    record { Broken = DoesBroken; refusal = DoesRule } ∷ []
 
 -- 11 and 12
 abbrev pub lastRules : List Rule
@@ -84,20 +84,29 @@ pub record Levelled (G : Game) (v : List ℕ) (top : ℕ) : Type 0 where
 -- the levels, or the place of 11
 abbrev pub LevelsOr11 : Game → Numbering → List ℕ → Type 0
 LevelsOr11 G (Allowed top) v = Levelled G v top
-LevelsOr11 G (Refused p) v = Lowest (LevelsBroken G) p
+LevelsOr11 G (Refused p) v = Lowest (LevelsBroken G) p × (v ≡ blank 1024)
 
 pub record LevelsOf (Held : Game → Type 0) (n : Numbering) (v : List ℕ) : Type 0 where
   pub says : (G : Game) → Held G → LevelsOr11 G n v
 
--- the verdict, and the levels where it accepts; else everything is blank
-pub record Judges (Held : Game → Type 0) (Rules : Game → Verdict → Type 0) (j : Judgement) : Type 0 where
+-- the verdict, and the levels v where it accepts; else everything is blank
+pub record Judges (Held : Game → Type 0) (Rules : Game → Verdict → Type 0) (j : Judgement) (v : List ℕ) : Type 0 where
   pub ruled : (G : Game) → Held G → Rules G (verdictOf G (j .refusal))
-  pub levels : numberOf (j .refusal) ≡ 0 → (G : Game) → Held G → Levelled G (j .levels) (j .top)
-  pub blank-levels : (numberOf (j .refusal) ≡ 0 → ⊥) → j .levels ≡ blank 1024
+  pub levels : numberOf (j .refusal) ≡ 0 → (G : Game) → Held G → Levelled G v (j .top)
+  pub blank-levels : (numberOf (j .refusal) ≡ 0 → ⊥) → (G : Game) → Held G → v ≡ blank 1024
   pub blank-top : (numberOf (j .refusal) ≡ 0 → ⊥) → j .top ≡ 0
 
 abbrev pub refusedBy : Refusal → Judgement
-refusedBy r = record { refusal = r; levels = blank 1024; top = 0 }
+refusedBy r = record { refusal = r; top = 0 }
+
+-- the arrays of 8, 9 and 10
+pub record HeldUses (kinds heads starts literals owners : List ℕ) (G : Game) : Type 0 where
+  pub clauses : HeldClauses kinds heads starts literals G
+  pub edges : HeldEdges kinds owners literals G
+
+pub record UsesAsked (kinds heads starts literals owners : List ℕ) : Type 0 where
+  pub clauses : ClausesShaped kinds heads starts literals
+  pub edges : EdgesShaped kinds owners literals
 
 -- the arrays of 11 and 12
 pub record HeldLast (kinds firsts heads owners literals : List ℕ) (seats : ℕ) (G : Game) : Type 0 where

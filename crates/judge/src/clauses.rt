@@ -1,13 +1,14 @@
 // The rules that a clause breaks by itself: 6, 7 and 8.
 ghost use mathlib.Core.Path.{_≡_};
 ghost use mathlib.Core.Bool.{_&&_};
-ghost use Prim.Native.Nat.{_+_, _/_, _<_};
+ghost use mathlib.Core.List.{[], _∷_};
+ghost use Prim.Native.Nat.{_+_, _/_, _<_, _≤_};
 ghost use lib.Dec.{eqb, ltb};
 ghost use lib.ListN.{length, getD};
-ghost use Rattle.gdl.specs.Game.{roleKind};
-ghost use Rattle.rules.specs.Rules.{some, oneOf};
+ghost use Rattle.gdl.specs.Game.{roleKind, initKind, nextKind, seesKind};
+ghost use Rattle.rules.specs.Rules.{some, oneOf, BodyBroken};
 ghost use Rattle.judge.specs.Answers.{Searched, Tested};
-ghost use Rattle.judge.specs.Arrays.{Broken, HeldClauses, ClausesShaped, ClauseAsked, HeadAsked, BodyAsked, bodyAt, LiteralsOver};
+ghost use Rattle.judge.specs.Arrays.{Broken, HeldClauses, ClausesShaped, ClauseAsked, HeadAsked, BodyAsked, bodyAt, LiteralsOver, ClausesUsed, AnyMisused};
 use super::found::Found;
 use super::kinds::DOES;
 use super::kinds::INIT;
@@ -115,6 +116,48 @@ pub(super) fn lowest_breaking(
             return Found::At(i);
         }
         i += 1;
+    }
+    Found::Nowhere
+}
+
+// Whether an atom never stands in a body and has a use: its first one is a literal of so many.
+fn misused(kind: u16, first: u16, many: usize) -> bool
+    ensures { λ r. ⌜ r ≡ (ltb first many && oneOf (initKind ∷ nextKind ∷ seesKind ∷ []) kind) ⌝ }
+{
+    if wide(first) < many {
+        return one_of(&[INIT, NEXT, SEES], kind);
+    }
+    false
+}
+
+// Whether some atom is: one visit an atom.
+fn any_misused(kinds: &[u16], first: &[u16; 1024], many: usize) -> bool
+    requires { ⌜ length (now kinds) ≤ 1024 ⌝ }
+    ensures { λ r. ⌜ AnyMisused (now (kinds .entry)) (now (first .entry)) many r ⌝ }
+{
+    let mut p = 0;
+    while p < kinds.len() {
+        if misused(kinds[p], first[p], many) {
+            return true;
+        }
+        p += 1;
+    }
+    false
+}
+
+// The lowest clause that breaks 8. The first uses tell whether there is one, so that an accepted table's literals are not read again.
+pub(super) fn lowest_misusing(
+    kinds: &[u16],
+    heads: &[u16],
+    starts: &[u16],
+    literals: &[u16],
+    first: &[u16; 1024],
+) -> Found
+    requires { ⌜ ClausesUsed (now kinds) (now heads) (now starts) (now literals) (now first) ⌝ }
+    ensures { λ r. ⌜ Searched (HeldClauses (now (kinds .entry)) (now (heads .entry)) (now (starts .entry)) (now (literals .entry))) BodyBroken r ⌝ }
+{
+    if any_misused(kinds, first, literals.len()) {
+        return lowest_breaking(ClauseRule::Body, kinds, heads, starts, literals);
     }
     Found::Nowhere
 }

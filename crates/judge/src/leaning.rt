@@ -6,9 +6,41 @@ ghost use lib.ListN.{length, getD};
 ghost use Rattle.gdl.specs.Flags.{on, bit};
 ghost use Rattle.rules.specs.Rules.{oneOf, Leans};
 ghost use Rattle.judge.specs.Answers.{Searched};
-ghost use Rattle.judge.specs.Arrays.{Sown, HeldEdges, EdgesIndexed, MarksOf, LeanAsked, MarkAsked};
+ghost use Rattle.judge.specs.Arrays.{theseOf, thoseOf, Sown, HeldEdges, EdgesIndexed, MarksOf, MarkAsked};
 use super::found::Found;
+use super::kinds::DOES;
+use super::kinds::GOAL;
+use super::kinds::INIT;
+use super::kinds::LEGAL;
+use super::kinds::TERMINAL;
+use super::kinds::TRUE;
 use super::kinds::one_of;
+
+// 9 or 10.
+pub(super) enum DependenceRule {
+    Init,
+    Does,
+}
+
+// Whether a kind is one of these: atoms that may not depend.
+fn of_these(rule: DependenceRule, kind: u16) -> bool
+    ensures { λ r. ⌜ r ≡ oneOf (theseOf rule) kind ⌝ }
+{
+    match rule {
+        DependenceRule::Init => one_of(&[INIT], kind),
+        DependenceRule::Does => one_of(&[LEGAL, TERMINAL, GOAL], kind),
+    }
+}
+
+// Whether a kind is one of those: atoms on which these may not depend.
+fn of_those(rule: DependenceRule, kind: u16) -> bool
+    ensures { λ r. ⌜ r ≡ oneOf (thoseOf rule) kind ⌝ }
+{
+    match rule {
+        DependenceRule::Init => one_of(&[TRUE, DOES, LEGAL, TERMINAL, GOAL], kind),
+        DependenceRule::Does => one_of(&[DOES], kind),
+    }
+}
 
 fn flag(b: bool) -> u8
     ensures { λ r. ⌜ r ≡ bit b ⌝ }
@@ -20,14 +52,14 @@ fn flag(b: bool) -> u8
 }
 
 // A seed for each atom of one of those kinds.
-fn seeds_of(kinds: &[u16], those: &[u16]) -> [u8; 1024]
+fn seeds_of(rule: DependenceRule, kinds: &[u16]) -> [u8; 1024]
     requires { ⌜ length (now kinds) ≤ 1024 ⌝ }
-    ensures { λ r. ⌜ Sown (now (kinds .entry)) (now (those .entry)) (length (now (kinds .entry))) r ⌝ }
+    ensures { λ r. ⌜ Sown (now (kinds .entry)) (thoseOf rule) (length (now (kinds .entry))) r ⌝ }
 {
     let mut seeds = edges::marks::no_marks();
     let mut p = 0;
     while p < kinds.len() {
-        seeds[p] = flag(one_of(those, kinds[p]));
+        seeds[p] = flag(of_those(rule, kinds[p]));
         p += 1;
     }
     seeds
@@ -35,26 +67,26 @@ fn seeds_of(kinds: &[u16], those: &[u16]) -> [u8; 1024]
 
 // A mark for each atom that is of one of those kinds or depends on one.
 fn marks_of(
+    rule: DependenceRule,
     kinds: &[u16],
     owners: &[u16],
     literals: &[u16],
     first: &[u16; 1024],
     next: &[u16; 9216],
-    those: &[u16],
 ) -> [u8; 1024]
     requires { ⌜ EdgesIndexed (now kinds) (now owners) (now literals) (now first) (now next) ⌝ }
-    ensures { λ r. ⌜ MarksOf (HeldEdges (now (kinds .entry)) (now (owners .entry)) (now (literals .entry))) (now (those .entry)) r ⌝ }
+    ensures { λ r. ⌜ MarksOf (HeldEdges (now (kinds .entry)) (now (owners .entry)) (now (literals .entry))) (thoseOf rule) r ⌝ }
 {
-    let seeds = seeds_of(kinds, those);
+    let seeds = seeds_of(rule, kinds);
     edges::marks::dependents(owners, literals, first, next, &seeds, kinds.len())
 }
 
 // Whether atom p is marked and of one of these kinds.
-fn marked(kinds: &[u16], marks: &[u8; 1024], these: &[u16], p: usize) -> bool
+fn marked(rule: DependenceRule, kinds: &[u16], marks: &[u8; 1024], p: usize) -> bool
     requires { ⌜ MarkAsked (now kinds) p ⌝ }
-    ensures { λ r. ⌜ r ≡ (oneOf (now (these .entry)) (getD (now (kinds .entry)) p 0) && on (now (marks .entry)) p) ⌝ }
+    ensures { λ r. ⌜ r ≡ (oneOf (theseOf rule) (getD (now (kinds .entry)) p 0) && on (now (marks .entry)) p) ⌝ }
 {
-    if one_of(these, kinds[p]) {
+    if of_these(rule, kinds[p]) {
         return marks[p] == 1;
     }
     false
@@ -62,21 +94,20 @@ fn marked(kinds: &[u16], marks: &[u8; 1024], these: &[u16], p: usize) -> bool
 
 // The lowest atom of one of these kinds that depends on one of those, which are other kinds. `first` and `next` index the uses of the atoms.
 pub(super) fn lowest_leaning(
+    rule: DependenceRule,
     kinds: &[u16],
     owners: &[u16],
     literals: &[u16],
     first: &[u16; 1024],
     next: &[u16; 9216],
-    these: &[u16],
-    those: &[u16],
 ) -> Found
-    requires { ⌜ LeanAsked (now kinds) (now owners) (now literals) (now first) (now next) (now these) (now those) ⌝ }
-    ensures { λ r. ⌜ Searched (HeldEdges (now (kinds .entry)) (now (owners .entry)) (now (literals .entry))) (Leans (now (these .entry)) (now (those .entry))) r ⌝ }
+    requires { ⌜ EdgesIndexed (now kinds) (now owners) (now literals) (now first) (now next) ⌝ }
+    ensures { λ r. ⌜ Searched (HeldEdges (now (kinds .entry)) (now (owners .entry)) (now (literals .entry))) (Leans (theseOf rule) (thoseOf rule)) r ⌝ }
 {
-    let marks = marks_of(kinds, owners, literals, first, next, those);
+    let marks = marks_of(rule, kinds, owners, literals, first, next);
     let mut p = 0;
     while p < kinds.len() {
-        if marked(kinds, &marks, these, p) {
+        if marked(rule, kinds, &marks, p) {
             return Found::At(p);
         }
         p += 1;

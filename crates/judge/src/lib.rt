@@ -3,7 +3,7 @@ ghost use mathlib.Core.Path.{_≡_};
 ghost use Rattle.gdl.specs.Flags.{blank};
 ghost use Rattle.rules.specs.Rules.{Ruled};
 ghost use Rattle.judge.specs.Arrays.{HeldClauses, HeldEdges, ClausesShaped, EdgesShaped};
-ghost use Rattle.judge.specs.Judgement.{clauseRules, dependenceRules, lastRules, RuledIn, Answers, Held, HoldsGame, LevelsOf, Judges, LastAsked, HeldLast, refusedBy};
+ghost use Rattle.judge.specs.Judgement.{headRules, useRules, lastRules, RuledIn, Answers, Held, HoldsGame, LevelsOf, Judges, UsesAsked, HeldUses, LastAsked, HeldLast, refusedBy};
 
 mod clauses; // 6, 7 and 8
 mod found;
@@ -13,29 +13,18 @@ mod seats; // 12
 
 use clauses::ClauseRule;
 use clauses::lowest_breaking;
+use clauses::lowest_misusing;
 use found::Found;
-use kinds::DOES;
-use kinds::GOAL;
-use kinds::INIT;
-use kinds::LEGAL;
-use kinds::TERMINAL;
-use kinds::TRUE;
+use leaning::DependenceRule;
 use leaning::lowest_leaning;
 use levels::Numbering;
 use refusals::Refusal;
 use refusals::number_of;
 use seats::lowest_seat;
 
-// The levels in 1,024 places, or the place of 11.
-struct Numbered {
-    numbering: Numbering,
-    levels: [u16; 1024],
-}
-
-// A refusal of 6 to 12, all else blank; or Success, the least level of each atom and the first number above the levels.
+// A refusal of 6 to 12; or Success and the first number above the levels, which stand in lent room.
 pub struct Judgement {
     pub refusal: Refusal,
-    pub levels: [u16; 1024],
     pub top: u16,
 }
 
@@ -45,54 +34,44 @@ fn wide(x: u16) -> usize
     x as usize
 }
 
-// 6, 7 and 8.
-fn judge_clauses(kinds: &[u16], heads: &[u16], starts: &[u16], literals: &[u16]) -> Refusal
+// 6 and 7.
+fn judge_heads(kinds: &[u16], heads: &[u16], starts: &[u16], literals: &[u16]) -> Refusal
     requires { ⌜ ClausesShaped (now kinds) (now heads) (now starts) (now literals) ⌝ }
-    ensures { λ r. ⌜ Answers (HeldClauses (now (kinds .entry)) (now (heads .entry)) (now (starts .entry)) (now (literals .entry))) clauseRules r ⌝ }
+    ensures { λ r. ⌜ Answers (HeldClauses (now (kinds .entry)) (now (heads .entry)) (now (starts .entry)) (now (literals .entry))) headRules r ⌝ }
 {
     match lowest_breaking(ClauseRule::Role, kinds, heads, starts, literals) {
         Found::At(i) => return Refusal::RoleWithBody(i),
         Found::Nowhere => {}
     }
     match lowest_breaking(ClauseRule::Head, kinds, heads, starts, literals) {
-        Found::At(i) => return Refusal::NeverHead(i),
-        Found::Nowhere => {}
-    }
-    match lowest_breaking(ClauseRule::Body, kinds, heads, starts, literals) {
-        Found::At(i) => Refusal::NeverInBody(i),
+        Found::At(i) => Refusal::NeverHead(i),
         Found::Nowhere => Refusal::Success,
     }
 }
 
-// 9 and 10, over one index of the uses.
-fn judge_dependence(kinds: &[u16], owners: &[u16], literals: &[u16]) -> Refusal
-    requires { ⌜ EdgesShaped (now kinds) (now owners) (now literals) ⌝ }
-    ensures { λ r. ⌜ Answers (HeldEdges (now (kinds .entry)) (now (owners .entry)) (now (literals .entry))) dependenceRules r ⌝ }
+// 8, 9 and 10, over one index of the uses.
+fn judge_uses(
+    kinds: &[u16],
+    heads: &[u16],
+    starts: &[u16],
+    literals: &[u16],
+    owners: &[u16],
+) -> Refusal
+    requires { ⌜ UsesAsked (now kinds) (now heads) (now starts) (now literals) (now owners) ⌝ }
+    ensures { λ r. ⌜ Answers (HeldUses (now (kinds .entry)) (now (heads .entry)) (now (starts .entry)) (now (literals .entry)) (now (owners .entry))) useRules r ⌝ }
 {
     let mut first = edges::uses::no_uses();
     let mut next = edges::uses::no_nexts();
     edges::uses::index_uses(literals, &mut first, &mut next);
-    match lowest_leaning(
-        kinds,
-        owners,
-        literals,
-        &first,
-        &next,
-        &[INIT],
-        &[TRUE, DOES, LEGAL, TERMINAL, GOAL],
-    ) {
+    match lowest_misusing(kinds, heads, starts, literals, &first) {
+        Found::At(i) => return Refusal::NeverInBody(i),
+        Found::Nowhere => {}
+    }
+    match lowest_leaning(DependenceRule::Init, kinds, owners, literals, &first, &next) {
         Found::At(p) => return Refusal::InitRule(p),
         Found::Nowhere => {}
     }
-    match lowest_leaning(
-        kinds,
-        owners,
-        literals,
-        &first,
-        &next,
-        &[LEGAL, TERMINAL, GOAL],
-        &[DOES],
-    ) {
+    match lowest_leaning(DependenceRule::Does, kinds, owners, literals, &first, &next) {
         Found::At(p) => Refusal::DoesRule(p),
         Found::Nowhere => Refusal::Success,
     }
@@ -107,22 +86,16 @@ fn no_levels() -> [u16; 1024]
 fn refused(refusal: Refusal) -> Judgement
     ensures { λ j. ⌜ j ≡ refusedBy refusal ⌝ }
 {
-    Judgement {
-        refusal,
-        levels: no_levels(),
-        top: 0,
-    }
+    Judgement { refusal, top: 0 }
 }
 
-// 11.
-fn number_atoms(kinds: &[u16], owners: &[u16], literals: &[u16]) -> Numbered
-    requires { ⌜ EdgesShaped (now kinds) (now owners) (now literals) ⌝ }
-    ensures { λ r. ⌜ LevelsOf (HeldEdges (now (kinds .entry)) (now (owners .entry)) (now (literals .entry))) (r .numbering) (r .levels) ⌝ }
+// 11: the levels in 1,024 places, or the place.
+fn number_atoms(kinds: &[u16], owners: &[u16], literals: &[u16], levels: &mut [u16]) -> Numbering
+    requires { ⌜ EdgesShaped (now kinds) (now owners) (now literals) × (now levels ≡ blank 1024) ⌝ }
+    ensures { λ r. ⌜ LevelsOf (HeldEdges (now (kinds .entry)) (now (owners .entry)) (now (literals .entry))) r (now (levels .exit)) ⌝ }
 {
-    let mut levels = no_levels();
     let n = kinds.len();
-    let numbering = levels::number_levels(owners, literals, &mut levels[0..n]);
-    Numbered { numbering, levels }
+    levels::number_levels(owners, literals, &mut levels[0..n])
 }
 
 // 11 and 12, and the levels.
@@ -133,29 +106,27 @@ fn judge_last(
     owners: &[u16],
     literals: &[u16],
     seats: usize,
+    levels: &mut [u16; 1024],
 ) -> Judgement
-    requires { ⌜ LastAsked (now kinds) (now firsts) (now heads) (now owners) (now literals) ⌝ }
-    ensures { λ j. ⌜ Judges (HeldLast (now (kinds .entry)) (now (firsts .entry)) (now (heads .entry)) (now (owners .entry)) (now (literals .entry)) seats) (RuledIn lastRules) j ⌝ }
+    requires { ⌜ LastAsked (now kinds) (now firsts) (now heads) (now owners) (now literals) × (now levels ≡ blank 1024) ⌝ }
+    ensures { λ j. ⌜ Judges (HeldLast (now (kinds .entry)) (now (firsts .entry)) (now (heads .entry)) (now (owners .entry)) (now (literals .entry)) seats) (RuledIn lastRules) j (now (levels .exit)) ⌝ }
 {
-    let numbered = number_atoms(kinds, owners, literals);
-    let numbering = numbered.numbering;
-    match numbering {
+    match number_atoms(kinds, owners, literals, levels) {
         Numbering::Refused(p) => refused(Refusal::NoLevels(p)),
         Numbering::Allowed(top) => match lowest_seat(kinds, firsts, heads, seats) {
-            Found::At(s) => refused(Refusal::NoRoleFact(s)),
-            Found::Nowhere => {
-                let levels = numbered.levels;
-                Judgement {
-                    refusal: Refusal::Success,
-                    levels,
-                    top,
-                }
+            Found::At(s) => {
+                *levels = no_levels();
+                refused(Refusal::NoRoleFact(s))
             }
+            Found::Nowhere => Judgement {
+                refusal: Refusal::Success,
+                top,
+            },
         },
     }
 }
 
-// The arrays of a table that was read: the first rule that is broken, at the lowest place, or the least levels of the atoms.
+// The arrays of a table that was read: the first rule that is broken, at the lowest place, or the least levels of the atoms in lent room.
 pub fn judge_arrays(
     kinds: &[u16],
     firsts: &[u16],
@@ -164,17 +135,18 @@ pub fn judge_arrays(
     literals: &[u16],
     owners: &[u16],
     seats: usize,
+    levels: &mut [u16; 1024],
 ) -> Judgement
-    requires { ⌜ HoldsGame (now kinds) (now firsts) (now heads) (now starts) (now literals) (now owners) seats ⌝ }
-    ensures { λ j. ⌜ Judges (Held (now (kinds .entry)) (now (firsts .entry)) (now (heads .entry)) (now (starts .entry)) (now (literals .entry)) (now (owners .entry)) seats) Ruled j ⌝ }
+    requires { ⌜ HoldsGame (now kinds) (now firsts) (now heads) (now starts) (now literals) (now owners) seats × (now levels ≡ blank 1024) ⌝ }
+    ensures { λ j. ⌜ Judges (Held (now (kinds .entry)) (now (firsts .entry)) (now (heads .entry)) (now (starts .entry)) (now (literals .entry)) (now (owners .entry)) seats) Ruled j (now (levels .exit)) ⌝ }
 {
-    let clauses = judge_clauses(kinds, heads, starts, literals);
-    if number_of(clauses) != 0 {
-        return refused(clauses);
+    let by_heads = judge_heads(kinds, heads, starts, literals);
+    if number_of(by_heads) != 0 {
+        return refused(by_heads);
     }
-    let dependence = judge_dependence(kinds, owners, literals);
-    if number_of(dependence) != 0 {
-        return refused(dependence);
+    let by_uses = judge_uses(kinds, heads, starts, literals, owners);
+    if number_of(by_uses) != 0 {
+        return refused(by_uses);
     }
-    judge_last(kinds, firsts, heads, owners, literals, seats)
+    judge_last(kinds, firsts, heads, owners, literals, seats, levels)
 }

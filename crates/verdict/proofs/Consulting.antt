@@ -94,7 +94,7 @@ module _ (s : List ℕ) (r : Read) (ks fs ss hs ts ls os ks′ fs′ ss′ hs′
       go (ok G n) q w = let z : _≡_ {A = ℕ} 0 1 = cc (w .answer-is) in absurd (omega arith)
       go (fault g) q w = let k : g ≡ f = cc in sym (fault-judge s f (q ∙ ap fault k))
 
-  pub was-read : Blanks ks fs ss hs ts ls os → (h : Header) (many : ℕ) → r ≡ T.Good h many → Got s h many ks′ fs′ ss′ hs′ ts′ ls′ os′
+  pub was-read : {vs : List ℕ} → Blanks ks fs ss hs ts ls os vs → (h : Header) (many : ℕ) → r ≡ T.Good h many → Got s h many ks′ fs′ ss′ hs′ ts′ ls′ os′
   was-read b h many e = go (table s 0) refl w
     where
       go : (p : Parse Game) → table s 0 ≡ p → WroteTable p r ks fs ss hs ts ls os ks′ fs′ ss′ hs′ ts′ ls′ os′ → Got s h many ks′ fs′ ss′ hs′ ts′ ls′ os′
@@ -128,11 +128,11 @@ module _ {s : List ℕ} {h : Header} {many : ℕ} {kinds firsts seconds heads st
   pub judgeable : Judgeable kinds firsts heads starts literals owners (h .sizes .atoms) many (h .players .seats)
   judgeable = record { game = g .game; held = to-judge }
 
-  module _ {j : Judgement} (a : Judges (LaidToJudge kinds firsts heads starts literals owners (h .sizes .atoms) many (h .players .seats)) Ruled j) where
+  module _ {j : Judgement} {v : List ℕ} (a : Judges (LaidToJudge kinds firsts heads starts literals owners (h .sizes .atoms) many (h .players .seats)) Ruled j v) where
     pub broken : (numberOf (j .refusal) ≡ 0 → ⊥) → judge s ≡ unfit (j .refusal)
     broken n = sym (read-judge s (g .game) (g .end) (unfit (j .refusal)) (g .read) (rw (ne-eqb (numberOf (j .refusal)) 0 n) at (a .ruled (g .game) to-judge)))
 
-    pub kept : numberOf (j .refusal) ≡ 0 → Fits (judge s) h many (j .top) kinds firsts seconds heads starts literals owners (j .levels)
+    pub kept : numberOf (j .refusal) ≡ 0 → Fits (judge s) h many (j .top) kinds firsts seconds heads starts literals owners v
     kept z =
         let ruled : Ruled (g .game) (fit (g .game)) = rw (eq-eqb (numberOf (j .refusal)) 0 z) at (a .ruled (g .game) to-judge) in
         record {

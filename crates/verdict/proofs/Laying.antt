@@ -130,13 +130,13 @@ module _ {kinds firsts heads starts literals owners : List ℕ} {atoms many seat
     holds-part = record { game = j .game; held = held-part (j .held) }
 
   -- the answer on the parts in use is that on the arrays
-  pub judges-part : {r : Judgement} {R : Game → Verdict → Type 0}
-      → Judges (Held (cut atoms kinds) (cut atoms firsts) (cut many heads) (cut (many + 1) starts) (cut (getD starts many 0) literals) (cut (getD starts many 0) owners) seats) R r
-      → Judges (LaidToJudge kinds firsts heads starts literals owners atoms many seats) R r
+  pub judges-part : {r : Judgement} {v : List ℕ} {R : Game → Verdict → Type 0}
+      → Judges (Held (cut atoms kinds) (cut atoms firsts) (cut many heads) (cut (many + 1) starts) (cut (getD starts many 0) literals) (cut (getD starts many 0) owners) seats) R r v
+      → Judges (LaidToJudge kinds firsts heads starts literals owners atoms many seats) R r v
   judges-part a = record {
     ruled = λ G h. a .ruled G (held-part h);
     levels = λ e G h. a .levels e G (held-part h);
-    blank-levels = a .blank-levels;
+    blank-levels = λ n G h. a .blank-levels n G (held-part h);
     blank-top = a .blank-top;
   }
 

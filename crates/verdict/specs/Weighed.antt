@@ -16,7 +16,7 @@ use Rattle.verdict.specs.Laid.{Laid}
 use Rattle.verdict.specs.declared.Weighed.{Weighed}
 use Rattle.verdict.specs.declared.Weighed.the-variants as W
 
-pub record Blanks (kinds firsts seconds heads starts literals owners : List ℕ) : Type 0 where
+pub record Blanks (kinds firsts seconds heads starts literals owners levels : List ℕ) : Type 0 where
   pub kinds-blank : kinds ≡ blank 1024
   pub firsts-blank : firsts ≡ blank 1024
   pub seconds-blank : seconds ≡ blank 1024
@@ -24,6 +24,7 @@ pub record Blanks (kinds firsts seconds heads starts literals owners : List ℕ)
   pub starts-blank : starts ≡ blank 2049
   pub literals-blank : literals ≡ blank 8192
   pub owners-blank : owners ≡ blank 8192
+  pub levels-blank : levels ≡ blank 1024
 
 -- the game of an accepted table in its arrays, with its levels
 pub record Fits (v : Verdict) (h : Header) (many top : ℕ) (kinds firsts seconds heads starts literals owners levels : List ℕ) : Type 0 where

@@ -39,9 +39,10 @@ fn judge_part(
     atoms: u16,
     many: u16,
     seats: u16,
+    levels: &mut [u16; 1024],
 ) -> Judgement
-    requires { ⌜ Judgeable (now kinds) (now firsts) (now heads) (now starts) (now literals) (now owners) atoms many seats ⌝ }
-    ensures { λ j. ⌜ Judges (LaidToJudge (now (kinds .entry)) (now (firsts .entry)) (now (heads .entry)) (now (starts .entry)) (now (literals .entry)) (now (owners .entry)) atoms many seats) Ruled j ⌝ }
+    requires { ⌜ Judgeable (now kinds) (now firsts) (now heads) (now starts) (now literals) (now owners) atoms many seats × (now levels ≡ blank 1024) ⌝ }
+    ensures { λ j. ⌜ Judges (LaidToJudge (now (kinds .entry)) (now (firsts .entry)) (now (heads .entry)) (now (starts .entry)) (now (literals .entry)) (now (owners .entry)) atoms many seats) Ruled j (now (levels .exit)) ⌝ }
 {
     let a = atoms as usize;
     let n = many as usize;
@@ -54,6 +55,7 @@ fn judge_part(
         &literals[0..m],
         &owners[0..m],
         seats as usize,
+        levels,
     )
 }
 
@@ -110,7 +112,7 @@ fn weigh(
     owners: &mut [u16; 8192],
     levels: &mut [u16; 1024],
 ) -> Weighed
-    requires { ⌜ Blanks (now kinds) (now firsts) (now seconds) (now heads) (now starts) (now literals) (now owners) ⌝ }
+    requires { ⌜ Blanks (now kinds) (now firsts) (now seconds) (now heads) (now starts) (now literals) (now owners) (now levels) ⌝ }
     ensures { λ r. ⌜ Weighs (judge (now (s .entry))) r (now (kinds .exit)) (now (firsts .exit)) (now (seconds .exit)) (now (heads .exit)) (now (starts .exit)) (now (literals .exit)) (now (owners .exit)) (now (levels .exit)) ⌝ }
 {
     match table::tables::read_table(s, kinds, firsts, seconds, heads, starts, literals, owners) {
@@ -126,13 +128,12 @@ fn weigh(
                 header.sizes.atoms,
                 many,
                 header.players.seats,
+                levels,
             );
             let broken = j.refusal;
             if number_of(broken) != 0 {
                 return Weighed::Refused(broken);
             }
-            let found = j.levels;
-            *levels = found;
             Weighed::Accepted(header, many, j.top)
         }
     }

@@ -5,8 +5,8 @@ use Rattle.judge.proofs.Shaping.{shapes}
 use Rattle.judge.proofs.judge_arrays.Statement.{statement}
 use Rattle.judge.proofs.judge_arrays.Tie as tie
 
-judge-clauses-requires : tie.Need-judge-clauses-requires
-judge-clauses-requires c κs = search (needs, shapes, judging)
+judge-heads-requires : tie.Need-judge-heads-requires
+judge-heads-requires c κs = search (needs, shapes, judging)
 
 number-of-requires : tie.Need-number-of-requires
 number-of-requires c κs = search needs
@@ -17,8 +17,8 @@ refused-requires c κs = search needs
 returns : tie.Need-returns
 returns c = search (needs, shapes, judging)
 
-judge-dependence-requires : tie.Need-judge-dependence-requires
-judge-dependence-requires c κs = search (needs, shapes, judging)
+judge-uses-requires : tie.Need-judge-uses-requires
+judge-uses-requires c κs = search (needs, shapes, judging)
 
 number-of-requires-2 : tie.Need-number-of-requires-2
 number-of-requires-2 c κs = search needs
@@ -39,11 +39,11 @@ pub judge-arrays-spec : {M : Type 1} → statement M
 judge-arrays-spec =
     tie.close
     (tie.spec
-    judge-clauses-requires
+    judge-heads-requires
     number-of-requires
     refused-requires
     returns
-    judge-dependence-requires
+    judge-uses-requires
     number-of-requires-2
     refused-requires-2
     returns-2

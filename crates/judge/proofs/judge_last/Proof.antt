@@ -7,20 +7,23 @@ use Rattle.judge.proofs.judge_last.Tie as tie
 number-atoms-requires : tie.Need-number-atoms-requires
 number-atoms-requires c κs = search needs
 
-enum-known-numbering : tie.Need-enum-known-numbering
-enum-known-numbering c = search needs
+enum-known-p : tie.Need-enum-known-p
+enum-known-p c = search needs
 
 refused-requires : tie.Need-refused-requires
 refused-requires c κs = search needs
 
-enum-known-numbering-2 : tie.Need-enum-known-numbering-2
-enum-known-numbering-2 c = search needs
+enum-known-top : tie.Need-enum-known-top
+enum-known-top c = search needs
 
 lowest-seat-requires : tie.Need-lowest-seat-requires
 lowest-seat-requires c κs = search needs
 
 enum-known-s : tie.Need-enum-known-s
 enum-known-s c = search needs
+
+no-levels-requires : tie.Need-no-levels-requires
+no-levels-requires c κs = search needs
 
 refused-requires-2 : tie.Need-refused-requires-2
 refused-requires-2 c κs = search needs
@@ -42,11 +45,12 @@ judge-last-spec =
     tie.close
     (tie.spec
     number-atoms-requires
-    enum-known-numbering
+    enum-known-p
     refused-requires
-    enum-known-numbering-2
+    enum-known-top
     lowest-seat-requires
     enum-known-s
+    no-levels-requires
     refused-requires-2
     enum-told
     returns

@@ -16,22 +16,22 @@ enum-known-header c = search needs
 
 judge-part-requires : tie.Need-judge-part-requires
 judge-part-requires c κs =
-    let a = c .before .before .before .before .before .before .before .before .before .before .before .before .before .before .before .before .before .before .before .before .before .before .before .before .args in
-    let pre = c .before .before .before .before .before .before .before .before .before .before .before .before .before .before .before .before .before .before .before .before .before .before .before .before .pre in
-    let read-table = c .before .before .before .before .before .before .before .before .before .before .before .before .before .before .before .read-table in
-    let header = c .before .before .before .before .before .before .before .before .before .before .before .before .before .header in
+    let a = c .before .before .before .before .before .before .before .before .before .before .before .before .before .before .before .before .before .before .before .before .before .before .before .before .before .args in
+    let pre = c .before .before .before .before .before .before .before .before .before .before .before .before .before .before .before .before .before .before .before .before .before .before .before .before .before .pre in
+    let read-table = c .before .before .before .before .before .before .before .before .before .before .before .before .before .before .before .before .read-table in
+    let header = c .before .before .before .before .before .before .before .before .before .before .before .before .before .before .header in
     let got = was-read (a .s .now) _ _ _ _ _ _ _ _ _ _ _ _ _ _ _ (read-table .ensures) pre _ _ (header .given .1) in
-    judgeable got
+    (judgeable got, pre .levels-blank)
 
 number-of-requires : tie.Need-number-of-requires
 number-of-requires c κs = search needs
 
 returns : tie.Need-returns
 returns c =
-    let a = c .before .before .before .before .before .before .before .before .before .before .before .before .before .before .before .before .before .before .before .before .before .before .before .before .before .before .before .args in
-    let pre = c .before .before .before .before .before .before .before .before .before .before .before .before .before .before .before .before .before .before .before .before .before .before .before .before .before .before .before .pre in
-    let read-table = c .before .before .before .before .before .before .before .before .before .before .before .before .before .before .before .before .before .before .read-table in
-    let header = c .before .before .before .before .before .before .before .before .before .before .before .before .before .before .before .before .header in
+    let a = c .before .before .before .before .before .before .before .before .before .before .before .before .before .before .before .before .before .before .before .before .before .before .before .before .before .before .before .before .args in
+    let pre = c .before .before .before .before .before .before .before .before .before .before .before .before .before .before .before .before .before .before .before .before .before .before .before .before .before .before .before .before .pre in
+    let read-table = c .before .before .before .before .before .before .before .before .before .before .before .before .before .before .before .before .before .before .before .read-table in
+    let header = c .before .before .before .before .before .before .before .before .before .before .before .before .before .before .before .before .before .header in
     let got = was-read (a .s .now) _ _ _ _ _ _ _ _ _ _ _ _ _ _ _ (read-table .ensures) pre _ _ (header .given .1) in
     let judge-part = c .before .before .judge-part in
     let number-of = c .before .number-of in
@@ -51,10 +51,9 @@ returns-3 c =
     let read-table = c .before .before .before .before .before .before .before .before .before .before .before .before .before .before .before .before .before .before .before .read-table in
     let header = c .before .before .before .before .before .before .before .before .before .before .before .before .before .before .before .before .before .header in
     let got = was-read (a .s .now) _ _ _ _ _ _ _ _ _ _ _ _ _ _ _ (read-table .ensures) pre _ _ (header .given .1) in
-    let judge-part = c .before .before .before .judge-part in
-    let number-of = c .before .before .number-of in
-    let if1 = c .before .if1 in
-    kept got (judge-part .ensures) (sym (number-of .ensures) ∙ if1 .left)
+    let judge-part = c .before .before .judge-part in
+    let number-of = c .before .number-of in
+    kept got (judge-part .ensures) (sym (number-of .ensures) ∙ c .if1 .left)
 
 pub weigh-spec : {M : Type 1} → statement M
 weigh-spec =

@@ -3,17 +3,17 @@ use Prim.Native.Nat.{_-_}
 use lib.ListN.{length}
 use borrow.Author.Needs.{needs}
 use Rattle.rules.specs.Rules.{Leans}
-use Rattle.judge.specs.Arrays.{HeldEdges}
+use Rattle.judge.specs.Arrays.{theseOf, thoseOf, HeldEdges}
 use Rattle.judge.proofs.Marking.{leaning}
 use Rattle.judge.proofs.Searching.{Clear, searches}
 use Rattle.judge.proofs.leaning.lowest_leaning.Statement.{statement}
 use Rattle.judge.proofs.leaning.lowest_leaning.Tie as tie
 
 abbrev Inv-loop : tie.InvT-loop
-Inv-loop kinds owners literals first next these those marks p₀ p = Clear (HeldEdges kinds owners literals) (Leans these those) p
+Inv-loop rule kinds owners literals first next marks p₀ p = Clear (HeldEdges kinds owners literals) (Leans (theseOf rule) (thoseOf rule)) p
 
 abbrev μ-loop : tie.MeasureT-loop
-μ-loop kinds owners literals first next these those marks p₀ p = length kinds - p
+μ-loop rule kinds owners literals first next marks p₀ p = length kinds - p
 
 marks-of-requires : tie.Need-marks-of-requires Inv-loop μ-loop
 marks-of-requires c κs = search (needs, searches, leaning)

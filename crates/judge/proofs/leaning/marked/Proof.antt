@@ -4,14 +4,14 @@ use Rattle.judge.proofs.Marking.{leaning}
 use Rattle.judge.proofs.leaning.marked.Statement.{statement}
 use Rattle.judge.proofs.leaning.marked.Tie as tie
 
-mul-one-of : tie.Need-mul-one-of
-mul-one-of c = search needs
+mul-of-these : tie.Need-mul-of-these
+mul-of-these c = search needs
 
-shared-slice-read-one-of : tie.Need-shared-slice-read-one-of
-shared-slice-read-one-of c = search needs
+shared-slice-read-of-these : tie.Need-shared-slice-read-of-these
+shared-slice-read-of-these c = search needs
 
-one-of-requires : tie.Need-one-of-requires
-one-of-requires c κs = search needs
+of-these-requires : tie.Need-of-these-requires
+of-these-requires c κs = search needs
 
 element-copy-out-result : tie.Need-element-copy-out-result
 element-copy-out-result c = search needs
@@ -26,9 +26,9 @@ pub marked-spec : {M : Type 1} → statement M
 marked-spec =
     tie.close
     (tie.spec
-    mul-one-of
-    shared-slice-read-one-of
-    one-of-requires
+    mul-of-these
+    shared-slice-read-of-these
+    of-these-requires
     element-copy-out-result
     returns
     returns-2)

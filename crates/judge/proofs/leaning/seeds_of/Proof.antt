@@ -2,16 +2,16 @@
 use Prim.Native.Nat.{_-_, _≤_}
 use lib.ListN.{length}
 use borrow.Author.Needs.{needs}
-use Rattle.judge.specs.Arrays.{Sown}
+use Rattle.judge.specs.Arrays.{thoseOf, Sown}
 use Rattle.judge.proofs.Marking.{leaning}
 use Rattle.judge.proofs.leaning.seeds_of.Statement.{statement}
 use Rattle.judge.proofs.leaning.seeds_of.Tie as tie
 
 abbrev Inv-loop : tie.InvT-loop
-Inv-loop kinds those seeds₀ p₀ seeds p = (p ≤ length kinds) × Sown kinds those p seeds
+Inv-loop rule kinds seeds₀ p₀ seeds p = (p ≤ length kinds) × Sown kinds (thoseOf rule) p seeds
 
 abbrev μ-loop : tie.MeasureT-loop
-μ-loop kinds those seeds₀ p₀ seeds p = length kinds - p
+μ-loop rule kinds seeds₀ p₀ seeds p = length kinds - p
 
 no-marks-requires : tie.Need-no-marks-requires Inv-loop μ-loop
 no-marks-requires c κs = search needs
@@ -19,14 +19,14 @@ no-marks-requires c κs = search needs
 loop-holds : tie.Need-loop-holds Inv-loop μ-loop
 loop-holds c = search (needs, leaning)
 
-mul-one-of : tie.Need-mul-one-of Inv-loop μ-loop
-mul-one-of c = search needs
+mul-of-those : tie.Need-mul-of-those Inv-loop μ-loop
+mul-of-those c = search needs
 
-shared-slice-read-one-of : tie.Need-shared-slice-read-one-of Inv-loop μ-loop
-shared-slice-read-one-of c = search needs
+shared-slice-read-of-those : tie.Need-shared-slice-read-of-those Inv-loop μ-loop
+shared-slice-read-of-those c = search needs
 
-one-of-requires : tie.Need-one-of-requires Inv-loop μ-loop
-one-of-requires c κs = search needs
+of-those-requires : tie.Need-of-those-requires Inv-loop μ-loop
+of-those-requires c κs = search needs
 
 flag-requires : tie.Need-flag-requires Inv-loop μ-loop
 flag-requires c κs = search needs
@@ -54,9 +54,9 @@ seeds-of-spec =
     μ-loop
     no-marks-requires
     loop-holds
-    mul-one-of
-    shared-slice-read-one-of
-    one-of-requires
+    mul-of-those
+    shared-slice-read-of-those
+    of-those-requires
     flag-requires
     array-write-seeds
     add-p
