@@ -23,7 +23,8 @@ use Rattle.gdl.specs.Game.{Atom, Clause, Game}
 use Rattle.rules.specs.Verdict.{Verdict, fit}
 use Rattle.rules.specs.Judged.{tableTests, ruledBy, judgedOf, judge}
 use Rattle.calls.proofs.Shifting.{Left, Agree, Alike, agree-after, alike-after, bounded-alike, sizes-alike, atoms-alike, clauses-alike}
-use Rattle.calls.proofs.Claiming.{claiming, SameAnswers, claim-decides-nothing}
+use Rattle.calls.specs.Same.{claiming, SameAnswers}
+use Rattle.calls.proofs.Claiming.{claim-decides-nothing}
 
 -- a table with this claim: the version, the claim, and what follows
 abbrev pub withClaim : ℕ → List ℕ → List ℕ

@@ -4,3 +4,4 @@ pub mod Message
 pub mod Calls
 pub mod Promises
 pub mod Published
+pub mod Same

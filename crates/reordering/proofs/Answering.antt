@@ -20,7 +20,7 @@ use Rattle.session.specs.declared.Session.{Session}
 use Rattle.calls.specs.Position.{atomIn, still, moved, over, legal, goal, opened, played}
 use Rattle.calls.specs.Message.{legalOf, goalsOf, messageNumbers, messageBytes}
 use Rattle.calls.specs.Calls.{illegal, check, openGame, offer, play, truth, message, hiddenFrom, offerTests, playTests, messageTests, modelTests, hiddenTests}
-use Rattle.calls.proofs.Claiming.{SameAnswers}
+use Rattle.calls.specs.Same.{SameAnswers}
 use Rattle.reordering.specs.Reordered.{SameClauses, withClauses}
 use Rattle.reordering.proofs.Swapping.{same-back, model-same, hidden-same}
 

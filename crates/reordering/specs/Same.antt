@@ -10,7 +10,7 @@ use Rattle.gdl.specs.Truth.{State, Joint, Model}
 use Rattle.gdl.specs.Reach.{Hidden}
 use Rattle.rules.specs.Verdict.{Verdict, unfit, fit}
 use Rattle.calls.specs.Calls.{claim}
-use Rattle.calls.proofs.Claiming.{SameAnswers}
+use Rattle.calls.specs.Same.{SameAnswers}
 
 -- "The place of 6 to 8 may differ."
 abbrev pub MayDiffer : ℕ → Type 0
