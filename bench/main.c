@@ -169,10 +169,20 @@ static double time_turns(const struct referee *r, struct job *j, enum call call,
     return now() - started;
 }
 
-/* The time of one turn: the best of some batches, each long enough for the clock. */
+/* The same with the call's own arrays so many bytes further down. Where they stand against the table and one another in the
+ * processor's cache can change the time of the same instructions by a fifth. */
+static double time_deeper(const struct referee *r, struct job *j, enum call call, unsigned turns, size_t bytes)
+{
+    volatile uint8_t above[bytes + 1];
+    above[bytes] = 0;
+    return time_turns(r, j, call, turns) + above[bytes];
+}
+
+/* The time of one turn: the best of some batches, each long enough for the clock and each at another depth. */
 static double seconds_of(const struct referee *r, struct job *j, enum call call)
 {
     const double batch = 1e-3, slow = 2e-2;
+    const size_t step = 17 * 64;
     unsigned turns = 1;
     double taken = time_turns(r, j, call, turns);
     while (taken < batch) {
@@ -180,8 +190,8 @@ static double seconds_of(const struct referee *r, struct job *j, enum call call)
         taken = time_turns(r, j, call, turns);
     }
     double best = taken;
-    for (unsigned left = taken > slow ? 2 : 6; left > 0; left--) {
-        taken = time_turns(r, j, call, turns);
+    for (unsigned left = taken > slow ? 3 : 12; left > 0; left--) {
+        taken = time_deeper(r, j, call, turns, left * step);
         best = taken < best ? taken : best;
     }
     return best / turns;

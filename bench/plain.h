@@ -15,8 +15,9 @@ static inline unsigned plain_number(plain_answer answer) { return answer & 0xFFF
 static inline unsigned plain_place(plain_answer answer) { return answer >> 16 & 0xFFFF; }
 static inline unsigned plain_value(plain_answer answer) { return (unsigned)(answer >> 32); }
 
-/* How levels and models are found: as the proved referee does it, by passes over the clauses until nothing is new, the levels over the
- * graph's components where a few passes are not enough; or always in linear time, over the components and by counts of unmet literals. */
+/* How levels, models and hidden moves are found: as the proved referee does it, by passes over the clauses until nothing is new, the levels
+ * over the graph's components where a few passes are not enough, and the whole reach of a seat; or always in linear time, over the
+ * components, by counts of unmet literals, and backwards from the move to what the seat is told. */
 enum plain_method { PLAIN_PASSES, PLAIN_LINEAR };
 void plain_use(enum plain_method chosen);
 

@@ -1,7 +1,6 @@
 -- "The claim is handed out on request. Of an accepted table no other answer depends on it."
 use mathlib.Core.Path.{refl}
 use Prim.Native.Nat.{ℕ}
-use Rattle.table.specs.Table.{clauses}
 use Rattle.gdl.specs.Game.{Game}
 use Rattle.gdl.specs.Computed.{facts, model, reachOf, hidden}
 use Rattle.rules.specs.Verdict.{fit}

@@ -1,4 +1,4 @@
--- One law for each return of a call: the premises are the outcomes of the tests, the conclusion is the promise.
+-- One law for each return of a call on an accepted table: the premises are the outcomes of the tests, the conclusion is the promise.
 use mathlib.Core.Path.{_≡_, refl}
 use mathlib.Core.Bool.{true, false, _&&_}
 use mathlib.Core.List.{List, _++_}
@@ -6,14 +6,13 @@ use Prim.Native.Nat.{ℕ, _+_}
 use lib.Dec.{eqb, leb, ltb}
 use native.Mathlib.Numerals.{add-one}
 use lib.ListN.{length, drop, set}
-use Rattle.refusals.specs.declared.Refusal.{Refusal}
 use Rattle.refusals.specs.declared.Refusal.the-variants.{Success, RoomTooShort, NoSuchSeat, NoSuchMove, AlreadyChosen, NotLegal, GameOver, NoChoice, BadShape, LastRound}
 use Rattle.refusals.specs.Ruling.{nowhere, found, lowest}
 use Rattle.gdl.specs.Game.{Game}
 use Rattle.gdl.specs.Flags.{bit}
 use Rattle.gdl.specs.Computed.{hidden}
-use Rattle.rules.specs.Verdict.{unfit, fit}
-use Rattle.session.specs.Shape.{positionShaped, choicesShaped, shaped, blankSession}
+use Rattle.rules.specs.Verdict.{fit}
+use Rattle.session.specs.Shape.{positionShaped, choicesShaped, shaped}
 use Rattle.session.specs.declared.Session.{Session}
 use Rattle.calls.specs.Position.{over, legal, opened, stored, played, moved}
 use Rattle.calls.specs.Message.{messageBytes}
@@ -21,25 +20,13 @@ use Rattle.calls.specs.Calls.{chosen, unchosen, illegal, offerTests, pla
 
 -- ---- check, claim, open
 
-pub check-unfit : (r : Refusal) → r ≡ check (unfit r)
-unfolding check
-check-unfit r = refl
-
 pub check-fit : (G : Game) → Success ≡ check (fit G)
 unfolding check
 check-fit G = refl
 
-pub claim-unfit : (r : Refusal) → record { refusal = r; claim = 0 } ≡ claim (unfit r)
-unfolding claim
-claim-unfit r = refl
-
 pub claim-fit : (G : Game) → record { refusal = Success; claim = G .claim } ≡ claim (fit G)
 unfolding claim
 claim-fit G = refl
-
-pub open-unfit : (r : Refusal) → record { refusal = r; session = blankSession } ≡ openGame (unfit r)
-unfolding openGame
-open-unfit r = refl
 
 pub open-fit : (G : Game) → record { refusal = Success; session = opened G } ≡ openGame (fit G)
 unfolding openGame
@@ -48,10 +35,6 @@ open-fit G = refl
 -- ---- offer
 
 module _ (G : Game) (σ : Session) (s m : ℕ) where
-  pub offer-unfit : (r : Refusal) → record { refusal = r; session = σ } ≡ offer (unfit r) σ s m
-  unfolding offer offerTests
-  offer-unfit r = refl
-
   pub offer-bad-shape : shaped G σ ≡ false → record { refusal = BadShape; session = σ } ≡ offer (fit G) σ s m
   unfolding offer offerTests
   offer-bad-shape a = rw a refl
@@ -91,15 +74,9 @@ module _ (G : Game) (σ : Session) (s m : ℕ) where
             unfolding stored
             offer-stored f = rw (add-one m) (offer-done f)
 
-pub ruleset offers = (offer-unfit, offer-bad-shape, offer-over, offer-no-seat, offer-no-move, offer-chosen, offer-illegal, offer-done)
-
 -- ---- play
 
 module _ (G : Game) (σ : Session) where
-  pub play-unfit : (r : Refusal) → record { refusal = r; session = σ } ≡ play (unfit r) σ
-  unfolding play playTests
-  play-unfit r = refl
-
   pub play-bad-shape : shaped G σ ≡ false → record { refusal = BadShape; session = σ } ≡ play (fit G) σ
   unfolding play playTests
   play-bad-shape a = rw a refl
@@ -128,15 +105,9 @@ module _ (G : Game) (σ : Session) where
           unfolding play playTests
           play-done e = rw (a, b, c, d, e) refl
 
-pub ruleset plays = (play-unfit, play-bad-shape, play-over, play-no-choice, play-illegal, play-last, play-done)
-
 -- ---- message
 
 module _ (G : Game) (σ : Session) (z : ℕ) (room : List ℕ) where
-  pub message-unfit : (r : Refusal) → (record { refusal = r; length = 0 }, room) ≡ message (unfit r) σ z room
-  unfolding message messageTests
-  message-unfit r = refl
-
   pub message-bad-shape : shaped G σ ≡ false → (record { refusal = BadShape; length = 0 }, room) ≡ message (fit G) σ z room
   unfolding message messageTests
   message-bad-shape a = rw a refl
@@ -156,15 +127,9 @@ module _ (G : Game) (σ : Session) (z : ℕ) (room : List ℕ) where
       unfolding message messageTests
       message-done c = rw (a, b, c) refl
 
-pub ruleset messages = (message-unfit, message-bad-shape, message-no-seat, message-no-room, message-done)
-
 -- ---- the model call
 
 module _ (G : Game) (pos ch room : List ℕ) where
-  pub model-unfit : (r : Refusal) → (r, room) ≡ truth (unfit r) pos ch room
-  unfolding truth modelTests
-  model-unfit r = refl
-
   pub model-bad-shape : (positionShaped G pos && choicesShaped G ch) ≡ false → (BadShape, room) ≡ truth (fit G) pos ch room
   unfolding truth modelTests
   model-bad-shape a = rw a refl
@@ -178,15 +143,9 @@ module _ (G : Game) (pos ch room : List ℕ) where
     unfolding truth modelTests
     model-done b = rw (a, b) refl
 
-pub ruleset models = (model-unfit, model-bad-shape, model-no-room, model-done)
-
 -- ---- hidden
 
 module _ (G : Game) (asking moving m : ℕ) where
-  pub hidden-unfit : (r : Refusal) → record { refusal = r; hidden = 0 } ≡ hiddenFrom (unfit r) asking moving m
-  unfolding hiddenFrom hiddenTests
-  hidden-unfit r = refl
-
   pub hidden-no-asking : leb (G .seats) asking ≡ true → record { refusal = NoSuchSeat; hidden = 0 } ≡ hiddenFrom (fit G) asking moving m
   unfolding hiddenFrom hiddenTests
   hidden-no-asking a = rw a refl
@@ -204,5 +163,3 @@ module _ (G : Game) (asking moving m : ℕ) where
       pub hidden-done : leb (G .moves) m ≡ false → record { refusal = Success; hidden = bit (hidden G asking moving m) } ≡ hiddenFrom (fit G) asking moving m
       unfolding hiddenFrom hiddenTests
       hidden-done c = rw (a, b, c) refl
-
-pub ruleset lookings = (hidden-unfit, hidden-no-asking, hidden-no-moving, hidden-no-move, hidden-done)

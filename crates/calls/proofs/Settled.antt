@@ -2,9 +2,8 @@
 use mathlib.Core.Path.{_≡_, refl, sym, ap, subst, _∙_}
 use mathlib.Core.Logic.{_⊎_, inl, inr}
 use mathlib.Core.Bool.{_&&_}
-use mathlib.Core.List.{List, [], _∷_, List·Memᴰ}
+use mathlib.Core.List.{List, [], _∷_}
 use Prim.Native.Nat.{ℕ, _<_}
-use native.Mathlib.Omega.{arith}
 use lib.Dec.{T, eqb, eqb→eq}
 use lib.ListN.{length}
 use Rattle.gdl.specs.Game.{Literal, atomOf, Clause, Game, doesKind, legalKind, terminalKind, goalKind, isAtom, atomAt, kindOf}
@@ -13,7 +12,7 @@ use Rattle.gdl.specs.Graph.{itself, Edge, Depends, direct, by}
 use Rattle.gdl.specs.Reach.{Shut}
 use Rattle.gdl.specs.Flags.{on}
 use Rattle.gdl.specs.Computed.{did, above, model}
-use Rattle.gdl.proofs.Tests.{and-left, or-left}
+use Rattle.gdl.proofs.Tests.{and-left}
 use Rattle.gdl.proofs.Reading.{any-agree}
 use Rattle.gdl.proofs.Depending.{above-self, above-sound, above-complete}
 use Rattle.gdl.proofs.Modelled.{model-is}

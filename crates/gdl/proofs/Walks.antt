@@ -1,19 +1,18 @@
 -- Laws of the three walks over 0, 1, 2, ..
 use mathlib.Core.Path.{_≡_, refl, sym, ap, ap₂, subst, _∙_}
 use mathlib.Core.Logic.{_↔_}
-use mathlib.Core.Bool.{Bool, true, false, _&&_, _||_, cond}
-use mathlib.Core.List.{List, [], _∷_, List·Memᴰ, List·Memᴰ·head, List·Memᴰ·tail, List·Memᴰ·not-nil}
+use mathlib.Core.Bool.{Bool, true, false, _||_, cond}
+use mathlib.Core.List.{List, [], _∷_}
 use Prim.Native.Nat.{ℕ, zero, suc, _+_, _≤_, _<_}
 use native.Mathlib.Nat.{not-suc-le-zero}
 use native.Mathlib.Omega.{arith}
 use native.Mathlib.Decide.{ℕ-discrete, decLt}
-use lib.Dec.{T, eqb, leb·zero}
+use lib.Dec.{T, eqb}
 use borrow.Author.Tests.{ne-eqb, eq-eqb}
 use lib.ListN.{length, getD, set, length-set}
 use lib.Seq.{ext-getD, getD-set-same, getD-set-other}
 use Rattle.gdl.specs.Flags.{on, bit, blank}
 use Rattle.gdl.proofs.Tests.{and-left, and-right, and-both}
-use Rattle.gdl.proofs.Bits.{Bits}
 use Rattle.gdl.specs.Lists.{flagsFrom, thoseFrom, everyFrom, flags, those, every}
 
 pub zeros : (n p : ℕ) → getD (blank n) p 0 ≡ 0

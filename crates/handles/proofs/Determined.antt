@@ -3,37 +3,22 @@ use mathlib.Core.Path.{_≡_}
 use mathlib.Core.List.{List}
 use Prim.Native.Nat.{ℕ}
 use denote.Ref.{RefT}
-use Rattle.numbers.specs.declared.Number.{Number}
 use Rattle.refusals.specs.declared.Refusal.{Refusal}
 use Rattle.rules.specs.Judged.{judge}
 use Rattle.session.specs.declared.Session.{Session}
 use Rattle.calls.specs.Calls.{offer, play}
 use Rattle.calls.proofs.Determining.{by-equation}
-use Rattle.handles.specs.declared.reader.Reader.{Reader}
-use Rattle.handles.specs.declared.reader.Found.{Found}
-use Rattle.handles.specs.declared.reader.ClauseStart.{ClauseStart}
-use Rattle.handles.specs.Reading.{foundAt, readerAt, readNext, clauseStart}
 use Rattle.handles.specs.Moving.{leaves}
 
 abbrev pub Determines : {W : Type 0} → (W → Type 0) → Type 0
 Determines {W = W} Promise = (a b : W) → Promise a → Promise b → a ≡ b
 
 pub record Determined (s : List ℕ) : Type 0 where
-  pub of-step : (at : ℕ) → Determines (λ (f : Found). f ≡ foundAt s at)
-  pub of-start : (table : RefT (List ℕ)) (at : ℕ) → Determines (λ (ρ : Reader). ρ ≡ readerAt table at)
-  pub of-next : (ρ : Reader) → Determines (λ (a : Number × Reader). a ≡ readNext ρ)
-  pub of-place : (ρ : Reader) → Determines (λ (n : ℕ). n ≡ ρ .at)
-  pub of-clause-start : (at : ℕ) → Determines (λ (r : ClauseStart). r ≡ clauseStart s at)
   pub of-offer : (σ : Session) (z m : ℕ) → Determines (λ (a : Refusal × Session). a ≡ leaves (offer (judge s) σ z m))
   pub of-play : (σ : Session) → Determines (λ (a : Refusal × Session). a ≡ leaves (play (judge s) σ))
 
 pub determined : (s : List ℕ) → Determined s
 determined s = record {
-  of-step = λ at a b. by-equation;
-  of-start = λ table at a b. by-equation;
-  of-next = λ ρ a b. by-equation;
-  of-place = λ ρ a b. by-equation;
-  of-clause-start = λ at a b. by-equation;
   of-offer = λ σ z m a b. by-equation;
   of-play = λ σ a b. by-equation;
 }

@@ -1,5 +1,5 @@
 -- What the walks of offer and play share: a lent table and a lent record are taken apart, the record of an answer is put back, and both are handed on at the end.
-use Rattle.handles.proofs.Walk.{refl, ℕ, List, [], _∷_, URA, fullShare, named, Val, vptr, Fml, GName, Lft, Share, fsep, ftrue, flft, fobs, fbor, fobor, fauth, Gv, Heap, Atoms, Given, Item, Goal, Seq, Step, Soaks, step, ‵, _⊛_, _$_, move, drop, use1, split, join, fsplit, fsplit3, fjoin, fjoin3, feqI, Body, RattleType, Denots, Valss, owns, Is, mem, cellAt, u8, RefT, MutRef, now, shr-slice-copy, closes, owned, unlocks, table-val, Table, TableOwn, token}
+use Rattle.reader.proofs.Walk.{refl, ℕ, List, [], _∷_, URA, fullShare, named, Val, vptr, Fml, GName, Lft, Share, fsep, ftrue, flft, fobs, fbor, fobor, fauth, Gv, Heap, Atoms, Given, Item, Goal, Seq, Step, Soaks, step, ‵, _⊛_, _$_, move, drop, use1, split, join, fsplit, fsplit3, fjoin, fjoin3, feqI, Body, RattleType, Denots, Valss, owns, Is, mem, cellAt, u8, RefT, MutRef, now, shr-slice-copy, closes, owned, unlocks, table-val, Table, TableOwn, token}
 use denote.Struct.Laws as LL
 use denote.Enum.Laws as EL
 use Rattle.refusals.specs.declared.Refusal.{Refusal}

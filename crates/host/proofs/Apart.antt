@@ -1,5 +1,4 @@
 -- The number of a wrong length is no refusal's: `apart`.
-use mathlib.Core.Path.{_≡_}
 use mathlib.Core.Logic.{_≢_}
 use native.Mathlib.Omega.{arith}
 use Rattle.refusals.specs.declared.Refusal.{Refusal}

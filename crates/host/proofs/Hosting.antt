@@ -18,7 +18,7 @@ use Rattle.calls.specs.declared.Sent.{Sent}
 use Rattle.calls.specs.Calls.{claim, openGame, offer, play, message}
 use Rattle.calls.specs.Promises.{ModelPromise}
 use Rattle.host.specs.declared.Answer.{Answer}
-use Rattle.host.specs.Hosted.{said, wrongLength, overRecord, handedOut, handedBack, claimHosted, openHosted, offerHosted, playHosted, sentSaid, messageHosted, Told, ModelHosted}
+use Rattle.host.specs.Hosted.{said, wrongLength, overRecord, handedOut, handedBack, claimHosted, openHosted, offerHosted, playHosted, sentSaid, messageHosted, ModelHosted}
 
 -- ---- an answer is its numbers
 

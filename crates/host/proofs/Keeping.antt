@@ -14,13 +14,13 @@ use Rattle.session.specs.declared.Session.{Session}
 use Rattle.session.specs.Bytes.{sessionBytes, sessionOf, fromPairs}
 use Rattle.session.specs.Shape.{blankSession}
 use Rattle.calls.specs.declared.Moved.{Moved}
-use Rattle.calls.specs.Calls.{openGame, offer, play, truth, message}
+use Rattle.calls.specs.Calls.{openGame, offer, play, truth}
 use Rattle.calls.specs.Promises.{ModelPromise}
 use Rattle.calls.proofs.Determining.{model-determined}
 use Rattle.calls.proofs.Keeping as calls
 use Rattle.calls.proofs.Meeting.{model-meets}
 use Rattle.host.specs.declared.Answer.{Answer}
-use Rattle.host.specs.Hosted.{said, wrongLength, overRecord, handedOut, handedBack, openHosted, offerHosted, playHosted, sentSaid, messageHosted, Told, ModelHosted}
+use Rattle.host.specs.Hosted.{said, wrongLength, overRecord, handedOut, handedBack, openHosted, offerHosted, playHosted, messageHosted, Told, ModelHosted}
 
 -- "On a refusal no byte of lent room changes and the record is the one given": if the number is not 0, the bytes are as before
 abbrev Keeps : List ℕ → Answer × List ℕ → Type 0

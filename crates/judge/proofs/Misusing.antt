@@ -9,7 +9,7 @@ use lib.Dec.{T, ltb, ltb→lt}
 use lib.ListN.{length, getD}
 use borrow.Author.Tests.{lt-ltb, le-ltb}
 use borrow.Author.Count.{below-more}
-use Rattle.gdl.specs.Game.{Clause, Game, initKind, nextKind, seesKind, atomOf, clauseAt, kindOf}
+use Rattle.gdl.specs.Game.{Clause, Game, initKind, nextKind, seesKind, atomOf, clauseAt}
 use Rattle.gdl.specs.Layout.{codeOf, ownersOf}
 use Rattle.gdl.proofs.Tests.{and-left, and-right, and-both}
 use Rattle.edges.specs.Graph.{Has, endOf}

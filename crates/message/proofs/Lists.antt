@@ -12,7 +12,7 @@ use Rattle.numbers.specs.Writing.{numberBytes, writtenAt, written}
 use Rattle.numbers.proofs.Writing.{written-append, written-long}
 use Rattle.gdl.specs.Flags.{bit}
 use Rattle.gdl.specs.Lists.{thoseFrom, those}
-use Rattle.message.specs.Message.{from, counted, Within, headNumbers, messageOf}
+use Rattle.message.specs.Message.{from, counted, headNumbers, messageOf}
 use Rattle.message.specs.declared.Sheet.{Sheet}
 
 -- the number n, if it passes

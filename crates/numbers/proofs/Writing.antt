@@ -11,7 +11,7 @@ use lib.ListN.{length, getD, set, length-set, length-append}
 use lib.Seq.{sets, length-sets, getD-set-same, getD-set-other}
 use lib.Dec.{leb}
 use borrow.Author.Tests.{le-ltb, lt-ltb, le-leb, lt-leb}
-use Rattle.numbers.specs.Number.{runAt, numberAt}
+use Rattle.numbers.specs.Number.{numberAt}
 use Rattle.numbers.specs.Writing.{numberBytes, writtenAt, bytesOf, written}
 use Rattle.numbers.specs.declared.Number.the-variants.{Read}
 use Rattle.numbers.specs.declared.Run.the-variants.{One, Two, Three}

@@ -8,7 +8,6 @@ use native.Mathlib.Omega.{arith}
 use native.Mathlib.Decide.{ℕ-discrete}
 use lib.ListN.{length, getD, set, length-set, length-replicate}
 use lib.Seq.{getD-set-same, getD-set-other}
-use Rattle.gdl.specs.Flags.{blank}
 use Rattle.edges.specs.Graph.{startOf, endOf}
 use Rattle.reach.specs.Links.{Follows, Brings, byLiteral, byFluent, Link, Linked, BodyLinked, Grows, Literals, Onward, Linkable, Precedes, Readable, Unlinked}
 

@@ -1,10 +1,2 @@
 pub mod Checking
-pub mod Writing
-pub mod Reading
-pub mod Asking
-pub mod Offering
-pub mod Opening
-pub mod Looking
-pub mod Telling
-pub mod Sending
-pub mod Playing
+pub mod Answering

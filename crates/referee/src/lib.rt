@@ -1,11 +1,13 @@
 // The calls of the referee. Each tests the table first, then the record or position, then what the page lists; nothing is kept between calls.
 // The check answers the refusal alone, and the model call the refusal and the lent room.
-mod positions; // limits, blank rooms, positions from marks
-mod moves; // offer, on an accepted table
-mod looks; // hidden, on an accepted table
-mod plays; // play, on an accepted table
-mod tells; // message and model, on an accepted table
-
+use answers::looks::hidden_fit;
+use answers::moves::offer_fit;
+use answers::opens::open_fit;
+use answers::plays::play_fit;
+use answers::positions::no_choices;
+use answers::positions::no_fluents;
+use answers::tells::message_fit;
+use answers::tells::model_fit;
 use calls::Claimed;
 use calls::Looked;
 use calls::Moved;
@@ -18,7 +20,6 @@ use session::bytes::blank_session;
 use table::tables::no_atoms;
 use verdict::Learnt;
 use verdict::consult;
-use verdict::marks_in;
 use verdict::no_flags;
 use verdict::trace;
 ghost use mathlib.Core.Path.{_≡_};
@@ -50,8 +51,8 @@ pub fn claim(table: &[u8]) -> Claimed
 pub fn open_game(table: &[u8]) -> Moved
     ensures { λ r. ⌜ r ≡ openGame (judge (now (table .entry))) ⌝ }
 {
-    let position = positions::no_fluents();
-    let choices = positions::no_choices();
+    let position = no_fluents();
+    let choices = no_choices();
     let mut kinds = no_atoms();
     let mut firsts = no_atoms();
     let mut seconds = no_atoms();
@@ -69,18 +70,7 @@ pub fn open_game(table: &[u8]) -> Moved
             refusal,
             session: blank_session(),
         },
-        Learnt::Accepted(header) => {
-            let marks = marks_in(header, &kinds, &firsts, &seconds, &flags, 2, 1);
-            Moved {
-                refusal: Refusal::Success,
-                session: Session {
-                    position: positions::first_marks(&marks),
-                    choices,
-                    percepts: positions::no_percepts(),
-                    round: 0,
-                },
-            }
-        }
+        Learnt::Accepted(header) => open_fit(header, &kinds, &firsts, &seconds, &flags),
     }
 }
 
@@ -89,7 +79,7 @@ pub fn offer(table: &[u8], session: Session, seat: Seat, choice: Move) -> Moved
     ensures { λ r. ⌜ r ≡ offer (judge (now (table .entry))) session (seat .0) (choice .0) ⌝ }
 {
     let position = session.position;
-    let choices = positions::no_choices();
+    let choices = no_choices();
     let mut kinds = no_atoms();
     let mut firsts = no_atoms();
     let mut seconds = no_atoms();
@@ -104,7 +94,7 @@ pub fn offer(table: &[u8], session: Session, seat: Seat, choice: Move) -> Moved
         &mut flags,
     ) {
         Learnt::Refused(refusal) => Moved { refusal, session },
-        Learnt::Accepted(header) => moves::offer_fit(
+        Learnt::Accepted(header) => offer_fit(
             header,
             &kinds,
             &firsts,
@@ -134,7 +124,7 @@ pub fn hidden(table: &[u8], asking: Seat, moving: Seat, choice: Move) -> Looked
         &mut flags,
     ) {
         Learnt::Refused(refusal) => Looked { refusal, hidden: 0 },
-        Learnt::Accepted(header) => looks::hidden_fit(
+        Learnt::Accepted(header) => hidden_fit(
             header,
             &kinds,
             &firsts,
@@ -165,7 +155,7 @@ pub fn model(table: &[u8], position: [u8; 512], choices: [u16; 8], room: &mut [u
         &mut flags,
     ) {
         Learnt::Refused(refusal) => refusal,
-        Learnt::Accepted(header) => tells::model_fit(
+        Learnt::Accepted(header) => model_fit(
             header,
             &kinds,
             &firsts,
@@ -198,14 +188,7 @@ pub fn play(table: &[u8], session: Session) -> Moved
         &mut flags,
     ) {
         Learnt::Refused(refusal) => Moved { refusal, session },
-        Learnt::Accepted(header) => plays::play_fit(
-            header,
-            &kinds,
-            &firsts,
-            &seconds,
-            &flags,
-            session,
-        ),
+        Learnt::Accepted(header) => play_fit(header, &kinds, &firsts, &seconds, &flags, session),
     }
 }
 
@@ -214,7 +197,7 @@ pub fn message(table: &[u8], session: Session, seat: Seat, room: &mut [u8]) -> S
     ensures { λ r. ⌜ (r, now (room .exit)) ≡ message (judge (now (table .entry))) session (seat .0) (now (room .entry)) ⌝ }
 {
     let position = session.position;
-    let choices = positions::no_choices();
+    let choices = no_choices();
     let mut kinds = no_atoms();
     let mut firsts = no_atoms();
     let mut seconds = no_atoms();
@@ -229,7 +212,7 @@ pub fn message(table: &[u8], session: Session, seat: Seat, room: &mut [u8]) -> S
         &mut flags,
     ) {
         Learnt::Refused(refusal) => Sent { refusal, length: 0 },
-        Learnt::Accepted(header) => tells::message_fit(
+        Learnt::Accepted(header) => message_fit(
             header,
             &kinds,
             &firsts,

@@ -1,5 +1,5 @@
 -- Tests in their order, the first that strikes deciding; a test may strike at the lowest of several places.
-use mathlib.Core.Bool.{Bool, true, false, cond}
+use mathlib.Core.Bool.{Bool, cond}
 use mathlib.Core.List.{List, [], _∷_}
 use Prim.Native.Nat.{ℕ, zero, suc}
 use Rattle.refusals.specs.declared.Refusal.{Refusal}

@@ -5,7 +5,7 @@ use Prim.Native.Nat.{ℕ, suc, _+_, _*_, _/_, _%_, _≤_, _<_}
 use native.Mathlib.Omega.{arith}
 use native.Mathlib.Numerals.{add-one, unary-clauses}
 use lib.Arith.{digits-mod}
-use lib.ListN.{length, getD, set, take, drop, length-append, length-set, length-replicate, drop-of-length-le}
+use lib.ListN.{length, getD, set, take, drop, length-append, length-replicate, drop-of-length-le}
 use lib.Seq.{sets, length-sets, sets-eq, length-take-le, take-at, take-all, drop-cons}
 use Rattle.gdl.specs.Flags.{blank}
 use Rattle.session.specs.declared.Session.{Session}

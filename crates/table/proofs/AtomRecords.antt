@@ -1,19 +1,18 @@
 -- Laws of the reading of atom records, one after another.
-use Prim.Native.Nat.{ℕ, zero, suc, _+_, _-_, _≤_, _<_}
+use Prim.Native.Nat.{ℕ, suc, _+_, _-_, _≤_, _<_}
 use native.Mathlib.Omega.{arith}
 use native.Mathlib.Nat.{sub-zero}
-use native.Mathlib.Numerals.{add-one}
 use mathlib.Core.Path.{_≡_, refl}
 use mathlib.Core.List.{List, [], _∷_, _++_, append-nil}
-use lib.ListN.{length, set, length-append, length-set}
+use lib.ListN.{length, set, length-append}
 use lib.Seq.{sets}
 use borrow.Author.Tests.{lt-ltb, le-ltb}
 use Rattle.refusals.specs.declared.Refusal.{Refusal}
 use Rattle.refusals.specs.declared.Refusal.the-variants.{NotAbove}
 use Rattle.gdl.specs.Game.{Atom}
 use Rattle.gdl.specs.Layout.{kindsOf, firstsOf, secondsOf}
-use Rattle.table.specs.Parse.{Parse, ok, fault, after}
-use Rattle.table.specs.Table.{atom, atomsFrom, key}
+use Rattle.table.specs.Parse.{after}
+use Rattle.table.specs.Table.{atom, atomsFrom}
 use Rattle.table.specs.Says.{atomOf, atomSays, keyOf, WroteAtoms}
 use Rattle.table.specs.declared.header.Header.{Header}
 use Rattle.table.specs.declared.atoms.AtomRecord.{AtomRecord}

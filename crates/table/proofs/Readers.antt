@@ -1,6 +1,6 @@
 -- Laws of the readers, in the form in which the code's tests and answers meet them.
 use Prim.Native.Nat.{ℕ, _≤_, _<_, _+_}
-use mathlib.Core.Path.{_≡_, sym, _∙_, ap, refl}
+use mathlib.Core.Path.{_≡_}
 use mathlib.Core.List.{List}
 use borrow.Author.Tests.{le-leb, lt-leb, le-ltb, lt-ltb}
 use Rattle.numbers.specs.Number.{numberAt}
@@ -8,7 +8,7 @@ use Rattle.numbers.specs.declared.Number.{Number}
 use Rattle.numbers.specs.declared.Number.the-variants.{Read, Cut, Long, Large}
 use Rattle.refusals.specs.declared.Refusal.{Refusal}
 use Rattle.refusals.specs.declared.Refusal.the-variants.{InputEnds, NotANumber, OutOfRange}
-use Rattle.table.specs.Parse.{Parse, ok, fault, after, inRange, bounded}
+use Rattle.table.specs.Parse.{Parse, ok, fault, bounded}
 use Rattle.table.specs.Table.{players, sizes, header, field, firstBound, secondBound, atom}
 use Rattle.table.specs.Says.{fieldSays, playersSay, sizesSay}
 use Rattle.table.specs.declared.fields.Field.{Field}

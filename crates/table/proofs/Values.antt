@@ -1,12 +1,11 @@
 -- What a caller may count on in a value that was read.
-use Prim.Native.Nat.{ℕ, _+_, _≤_, _<_}
+use Prim.Native.Nat.{ℕ, _≤_, _<_}
 use native.Mathlib.Omega.{arith}
-use mathlib.Core.Path.{_≡_, subst}
+use mathlib.Core.Path.{_≡_}
 use mathlib.Core.List.{List}
 use lib.ListN.{length}
 use lib.Dec.{ltb, leb}
 use borrow.Author.Tests.{ltb-false, leb-false}
-use Rattle.numbers.specs.If.{if_then_else_}
 use Rattle.numbers.specs.Number.{numberAt}
 use Rattle.numbers.proofs.Reading as N
 use Rattle.numbers.proofs.Reading.{by-test}
@@ -18,8 +17,6 @@ use Rattle.table.specs.Says.{headSays}
 use Rattle.table.specs.declared.header.Header.{Header}
 use Rattle.table.specs.declared.header.Head.{Head}
 use Rattle.table.specs.declared.header.Head.the-variants as H
-use Rattle.table.specs.declared.header.Sizes.{Sizes}
-use Rattle.table.specs.declared.header.Players.{Players}
 
 -- what holds of every value that a reading gives
 abbrev pub All : {A : Type 0} → (A → ℕ → Type 0) → Parse A → Type 0

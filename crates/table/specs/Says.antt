@@ -1,7 +1,7 @@
 -- What the code's answers say: each as the reading that it is, or as arrays that hold what was read.
 use Prim.Native.Nat.{ℕ}
 use mathlib.Core.Path.{_≡_}
-use mathlib.Core.List.{List, [], map}
+use mathlib.Core.List.{List, map}
 use lib.ListN.{length}
 use lib.Seq.{sets}
 use Rattle.gdl.specs.Game.{Atom, Literal, Clause, Game}

@@ -1,5 +1,5 @@
 -- Laws of the marks: one atom more, and what a mark says.
-use mathlib.Core.Path.{_≡_, refl, sym, ap, ap₂, _∙_}
+use mathlib.Core.Path.{_≡_, refl, sym, ap, _∙_}
 use mathlib.Core.Bool.{Bool, true, false, _&&_, _||_}
 use mathlib.Core.List.{List, [], _∷_, _++_}
 use Prim.Native.Nat.{ℕ, zero, suc, _+_, _*_, _≤_, _<_}
@@ -13,12 +13,12 @@ use lib.ListN.{length, getD, set, take}
 use lib.Seq.{length-take-le, take-suc, take-all}
 use Rattle.gdl.specs.Game.{Atom}
 use Rattle.gdl.specs.Sets.{Atoms}
-use Rattle.gdl.specs.Flags.{on, bit, blank, put}
+use Rattle.gdl.specs.Flags.{on, blank, put}
 use Rattle.gdl.specs.Lists.{flagsFrom, flags}
 use Rattle.gdl.specs.Computed.{anyOf}
 use Rattle.gdl.proofs.Walks.{flags-same, flags-set}
 use Rattle.truth.specs.Reading.{atomsOf}
-use Rattle.truth.specs.Marks.{fieldsAt, isAt, marksOf, Columns, Marking}
+use Rattle.truth.specs.Marks.{isAt, marksOf, Marking}
 use Rattle.truth.proofs.FactFlags.{atoms-length}
 
 -- ---- one place

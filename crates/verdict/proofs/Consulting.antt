@@ -164,9 +164,6 @@ module _ {v : Verdict} {h : Header} {many top : ℕ} {kinds firsts seconds heads
 
   -- how long each array is
   pub record Counts : Type 0 where
-    pub kinds-count : 1024 ≡ length kinds
-    pub firsts-count : 1024 ≡ length firsts
-    pub seconds-count : 1024 ≡ length seconds
     pub heads-count : 2048 ≡ length heads
     pub starts-count : 2049 ≡ length starts
     pub literals-count : 8192 ≡ length literals
@@ -176,9 +173,6 @@ module _ {v : Verdict} {h : Header} {many top : ℕ} {kinds firsts seconds heads
   counts =
       let p = parts (f .laid) in
       record {
-        kinds-count = sym (p .kinds-long);
-        firsts-count = sym (p .firsts-long);
-        seconds-count = sym (rw (f .seconds-are) (room-long 1024 (secondsOf (f .game .atoms))));
         heads-count = sym (p .heads-long);
         starts-count = sym (p .starts-long);
         literals-count = sym (p .literals-long);

@@ -3,9 +3,8 @@ use mathlib.Core.Path.{_≡_, refl, sym, ap, subst, _∙_}
 use mathlib.Core.List.{List, [], _∷_, _++_, map, List·Memᴰ, List·Memᴰ·head, List·Memᴰ·tail, List·Memᴰ·not-nil}
 use Prim.Native.Nat.{ℕ, suc, _+_, _-_, _≤_, _<_}
 use native.Mathlib.Omega.{arith}
-use native.Mathlib.Numerals.{add-one}
 use native.Mathlib.Nat.{add-zero, sub-zero}
-use lib.ListN.{length, getD, take, drop, replicate, length-map, length-append, length-replicate}
+use lib.ListN.{length, getD, take, drop, length-map, length-append, length-replicate}
 use lib.Seq.{sets, sets-eq, length-sets, take-append-seam, getD-take}
 use Rattle.gdl.specs.Game.{Atom, Clause, Game}
 use Rattle.gdl.specs.Flags.{blank}

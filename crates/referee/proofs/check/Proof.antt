@@ -1,5 +1,5 @@
 -- The refusal of the table that was examined.
-use Rattle.referee.proofs.Opening.{check-kept}
+use Rattle.referee.proofs.Answering.{check-kept}
 use borrow.Author.Needs.{needs}
 use Rattle.referee.proofs.check.Statement.{statement}
 use Rattle.referee.proofs.check.Tie as tie

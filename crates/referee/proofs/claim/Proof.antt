@@ -1,5 +1,5 @@
 -- The claim of the table that was examined.
-use Rattle.referee.proofs.Opening.{claim-kept}
+use Rattle.referee.proofs.Answering.{claim-kept}
 use borrow.Author.Needs.{needs}
 use Rattle.referee.proofs.claim.Statement.{statement}
 use Rattle.referee.proofs.claim.Tie as tie

@@ -1,6 +1,6 @@
 -- Hidden: a refused table hides nothing, an accepted one is traced for the asking seat.
-use Rattle.referee.proofs.Asking.{refusing, accepting}
-use Rattle.referee.proofs.Looking.{traced-of, hidden-refused, hidden-accepted}
+use Rattle.calls.specs.Calls.{hiddenFrom}
+use Rattle.referee.proofs.Answering.{refusing, accepting, traced, answered, hidden-refused, hidden-kept}
 use borrow.Author.Needs.{needs}
 use Rattle.referee.proofs.hidden.Statement.{statement}
 use Rattle.referee.proofs.hidden.Tie as tie
@@ -32,7 +32,7 @@ hidden-fit-requires c κs =
     let trace = c .before .before .before .before .before .before .before .trace in
     let header = c .before .before .before .before .before .header in
     let fits = accepting _ _ _ _ _ _ _ (trace .ensures) _ (header .given .1) in
-    traced-of (a .table .now) (a .asking .0) fits
+    traced (a .table .now) (a .asking .0) fits
 
 returns : tie.Need-returns
 returns c =
@@ -40,7 +40,7 @@ returns c =
     let trace = c .before .before .before .trace in
     let refusal = c .before .refusal in
     let unfit = refusing _ _ _ _ _ _ _ (trace .ensures) _ (refusal .given .1) in
-    hidden-refused (a .table .now) (a .asking .0) _ unfit (a .moving .0) (a .choice .0)
+    hidden-kept (a .table .now) (a .asking .0) (a .moving .0) (a .choice .0) _ (hidden-refused (a .table .now) _ unfit (a .asking .0) (a .moving .0) (a .choice .0))
 
 returns-2 : tie.Need-returns-2
 returns-2 c =
@@ -48,7 +48,7 @@ returns-2 c =
     let trace = c .before .before .before .before .before .before .before .before .trace in
     let header = c .before .before .before .before .before .before .header in
     let fits = accepting _ _ _ _ _ _ _ (trace .ensures) _ (header .given .1) in
-    hidden-accepted (a .table .now) (a .asking .0) _ fits (a .moving .0) (a .choice .0) (c .hidden-fit .result) (c .hidden-fit .ensures)
+    hidden-kept (a .table .now) (a .asking .0) (a .moving .0) (a .choice .0) _ (answered (a .table .now) _ fits (λ v. hiddenFrom v (a .asking .0) (a .moving .0) (a .choice .0)) (c .hidden-fit .result) (c .hidden-fit .ensures))
 
 pub hidden-spec : {M : Type 1} → statement M
 hidden-spec =

@@ -1,6 +1,6 @@
 -- Message: a refused table leaves the room, an accepted one is consulted without choices.
-use Rattle.referee.proofs.Asking.{refusing, accepting}
-use Rattle.referee.proofs.Sending.{asked-blank, message-refused, message-accepted}
+use Rattle.calls.specs.Calls.{message}
+use Rattle.referee.proofs.Answering.{refusing, accepting, unchosen, asked, answered, message-refused}
 use borrow.Author.Needs.{needs}
 use Rattle.referee.proofs.message.Statement.{statement}
 use Rattle.referee.proofs.message.Tie as tie
@@ -36,7 +36,7 @@ message-fit-requires c κs =
     let header = c .before .before .before .before .before .before .header in
     let fits = accepting _ _ _ _ _ _ _ (consult .ensures) _ (header .given .1) in
     let no-choices = c .before .before .before .before .before .before .before .before .before .before .before .before .before .before .before .before .before .before .before .no-choices in
-    asked-blank (a .table .now) (a .session .position) _ fits (no-choices .ensures)
+    asked (a .table .now) (a .session .position) _ (unchosen (a .session .position) _ fits (no-choices .ensures))
 
 returns : tie.Need-returns
 returns c =
@@ -44,7 +44,7 @@ returns c =
     let consult = c .before .before .before .consult in
     let refusal = c .before .refusal in
     let unfit = refusing _ _ _ _ _ _ _ (consult .ensures) _ (refusal .given .1) in
-    message-refused (a .table .now) _ (a .session) (a .seat .0) (a .room .now) unfit
+    message-refused (a .table .now) _ unfit (a .session) (a .seat .0) (a .room .now)
 
 same-length : tie.Need-same-length
 same-length c = search needs
@@ -57,7 +57,7 @@ returns-2 c =
     let fits = accepting _ _ _ _ _ _ _ (consult .ensures) _ (header .given .1) in
     let no-choices = c .before .before .before .before .before .before .before .before .before .before .before .before .before .before .before .before .before .before .before .before .before .before .no-choices in
     let message-fit = c .before .before .message-fit in
-    message-accepted (a .table .now) _ (a .session .position) _ fits (no-choices .ensures) (a .seat .0) _ (a .session) (a .room .now) (message-fit .ensures)
+    answered (a .table .now) _ (unchosen (a .session .position) _ fits (no-choices .ensures)) (λ v. message v (a .session) (a .seat .0) (a .room .now)) _ (message-fit .ensures)
 
 pub message-spec : {M : Type 1} → statement M
 message-spec =

@@ -1,6 +1,5 @@
 -- Model: a refused table leaves the room, an accepted one is consulted on the position and the choices.
-use Rattle.referee.proofs.Asking.{refusing, accepting, asked-of}
-use Rattle.referee.proofs.Telling.{model-refused, model-accepted}
+use Rattle.referee.proofs.Answering.{refusing, accepting, asked, model-refused, model-kept, model-answered}
 use borrow.Author.Needs.{needs}
 use Rattle.referee.proofs.model.Statement.{statement}
 use Rattle.referee.proofs.model.Tie as tie
@@ -32,7 +31,7 @@ model-fit-requires c κs =
     let consult = c .before .before .before .before .before .before .before .before .consult in
     let header = c .before .before .before .before .before .before .header in
     let fits = accepting _ _ _ _ _ _ _ (consult .ensures) _ (header .given .1) in
-    asked-of (a .table .now) _ _ fits
+    asked (a .table .now) _ _ fits
 
 returns : tie.Need-returns
 returns c =
@@ -40,7 +39,7 @@ returns c =
     let consult = c .before .before .before .consult in
     let refusal = c .before .refusal in
     let unfit = refusing _ _ _ _ _ _ _ (consult .ensures) _ (refusal .given .1) in
-    model-refused (a .table .now) _ _ (a .room .now) _ unfit
+    model-kept (a .table .now) _ _ (a .room .now) _ (model-refused (a .table .now) _ unfit _ _ (a .room .now))
 
 same-length : tie.Need-same-length
 same-length c = search needs
@@ -52,7 +51,7 @@ returns-2 c =
     let header = c .before .before .before .before .before .before .before .before .before .header in
     let fits = accepting _ _ _ _ _ _ _ (consult .ensures) _ (header .given .1) in
     let model-fit = c .before .before .model-fit in
-    model-accepted (a .table .now) _ _ (a .room .now) _ fits _ _ (model-fit .ensures)
+    model-answered (a .table .now) _ _ (a .room .now) fits _ (model-fit .ensures)
 
 pub model-spec : {M : Type 1} → statement M
 model-spec =

@@ -1,7 +1,6 @@
 -- Offer: a refused table leaves the record, an accepted one is consulted without choices.
-use Rattle.referee.proofs.Asking.{refusing, accepting}
-use Rattle.referee.proofs.Sending.{asked-blank}
-use Rattle.referee.proofs.Offering.{offer-refused, offer-accepted}
+use Rattle.calls.specs.Calls.{offer}
+use Rattle.referee.proofs.Answering.{refusing, accepting, unchosen, asked, answered, offer-refused}
 use borrow.Author.Needs.{needs}
 use Rattle.referee.proofs.offer.Statement.{statement}
 use Rattle.referee.proofs.offer.Tie as tie
@@ -37,7 +36,7 @@ offer-fit-requires c κs =
     let header = c .before .before .before .before .before .header in
     let fits = accepting _ _ _ _ _ _ _ (consult .ensures) _ (header .given .1) in
     let no-choices = c .before .before .before .before .before .before .before .before .before .before .before .before .before .before .before .before .before .before .no-choices in
-    asked-blank (a .table .now) (a .session .position) _ fits (no-choices .ensures)
+    asked (a .table .now) (a .session .position) _ (unchosen (a .session .position) _ fits (no-choices .ensures))
 
 returns : tie.Need-returns
 returns c =
@@ -45,7 +44,7 @@ returns c =
     let consult = c .before .before .before .consult in
     let refusal = c .before .refusal in
     let unfit = refusing _ _ _ _ _ _ _ (consult .ensures) _ (refusal .given .1) in
-    offer-refused (a .table .now) _ (a .session) (a .seat .0) (a .choice .0) unfit
+    offer-refused (a .table .now) _ unfit (a .session) (a .seat .0) (a .choice .0)
 
 returns-2 : tie.Need-returns-2
 returns-2 c =
@@ -54,7 +53,7 @@ returns-2 c =
     let header = c .before .before .before .before .before .before .header in
     let fits = accepting _ _ _ _ _ _ _ (consult .ensures) _ (header .given .1) in
     let no-choices = c .before .before .before .before .before .before .before .before .before .before .before .before .before .before .before .before .before .before .before .no-choices in
-    offer-accepted (a .table .now) _ (a .session .position) _ fits (no-choices .ensures) (a .seat .0) (a .choice .0) (c .offer-fit .result) (a .session) (c .offer-fit .ensures)
+    answered (a .table .now) _ (unchosen (a .session .position) _ fits (no-choices .ensures)) (λ v. offer v (a .session) (a .seat .0) (a .choice .0)) (c .offer-fit .result) (c .offer-fit .ensures)
 
 pub offer-spec : {M : Type 1} → statement M
 offer-spec =

@@ -1,6 +1,7 @@
--- Open: a refused table gives a blank record, an accepted one is consulted on no position.
-use Rattle.referee.proofs.Asking.{refusing, accepting, asked-of, fit-of}
-use Rattle.referee.proofs.Opening.{open-refused, open-accepted}
+-- Open: a refused table gives a blank record, an accepted one is consulted on no position and no choices.
+use mathlib.Core.List.{[]}
+use Rattle.calls.specs.Calls.{openGame}
+use Rattle.referee.proofs.Answering.{refusing, accepting, unset, asked, answered, open-refused}
 use borrow.Author.Needs.{needs}
 use Rattle.referee.proofs.open_game.Statement.{statement}
 use Rattle.referee.proofs.open_game.Tie as tie
@@ -35,19 +36,15 @@ blank-session-requires c κs = search needs
 enum-known-header : tie.Need-enum-known-header
 enum-known-header c = search needs
 
-marks-in-requires : tie.Need-marks-in-requires
-marks-in-requires c κs =
+open-fit-requires : tie.Need-open-fit-requires
+open-fit-requires c κs =
     let a = c .before .before .before .before .before .before .before .before .before .before .before .before .before .before .before .before .before .before .before .before .before .args in
     let consult = c .before .before .before .before .before .before .before .consult in
     let header = c .before .before .before .before .before .header in
     let fits = accepting _ _ _ _ _ _ _ (consult .ensures) _ (header .given .1) in
-    (fit-of (asked-of (a .table .now) _ _ fits), search needs)
-
-first-marks-requires : tie.Need-first-marks-requires
-first-marks-requires c κs = search needs
-
-no-percepts-requires : tie.Need-no-percepts-requires
-no-percepts-requires c κs = search needs
+    let no-fluents = c .before .before .before .before .before .before .before .before .before .before .before .before .before .before .before .before .before .before .before .no-fluents in
+    let no-choices = c .before .before .before .before .before .before .before .before .before .before .before .before .before .before .before .before .before .before .no-choices in
+    asked (a .table .now) [] [] (unset _ _ fits (no-fluents .ensures) (no-choices .ensures))
 
 returns : tie.Need-returns
 returns c =
@@ -55,19 +52,17 @@ returns c =
     let consult = c .before .before .before .before .consult in
     let refusal = c .before .before .refusal in
     let unfit = refusing _ _ _ _ _ _ _ (consult .ensures) _ (refusal .given .1) in
-    open-refused (a .table .now) _ (c .blank-session .result) unfit (c .blank-session .ensures)
+    open-refused (a .table .now) _ unfit (c .blank-session .result) (c .blank-session .ensures)
 
 returns-2 : tie.Need-returns-2
 returns-2 c =
-    let a = c .before .before .before .before .before .before .before .before .before .before .before .before .before .before .before .before .before .before .before .before .before .before .before .before .before .args in
-    let consult = c .before .before .before .before .before .before .before .before .before .before .before .consult in
-    let header = c .before .before .before .before .before .before .before .before .before .header in
+    let a = c .before .before .before .before .before .before .before .before .before .before .before .before .before .before .before .before .before .before .before .before .before .before .args in
+    let consult = c .before .before .before .before .before .before .before .before .consult in
+    let header = c .before .before .before .before .before .before .header in
     let fits = accepting _ _ _ _ _ _ _ (consult .ensures) _ (header .given .1) in
-    let no-fluents = c .before .before .before .before .before .before .before .before .before .before .before .before .before .before .before .before .before .before .before .before .before .before .before .no-fluents in
-    let no-choices = c .before .before .before .before .before .before .before .before .before .before .before .before .before .before .before .before .before .before .before .before .before .before .no-choices in
-    let marks-in = c .before .before .before .marks-in in
-    let first-marks = c .before .first-marks in
-    open-accepted (a .table .now) _ _ _ fits (no-fluents .ensures) (no-choices .ensures) (marks-in .result) (first-marks .result) _ (c .no-percepts .result) (marks-in .ensures) (first-marks .ensures) (no-choices .ensures) (c .no-percepts .ensures)
+    let no-fluents = c .before .before .before .before .before .before .before .before .before .before .before .before .before .before .before .before .before .before .before .before .no-fluents in
+    let no-choices = c .before .before .before .before .before .before .before .before .before .before .before .before .before .before .before .before .before .before .before .no-choices in
+    answered (a .table .now) _ (unset _ _ fits (no-fluents .ensures) (no-choices .ensures)) openGame (c .open-fit .result) (c .open-fit .ensures)
 
 pub open-game-spec : {M : Type 1} → statement M
 open-game-spec =
@@ -83,8 +78,6 @@ open-game-spec =
     enum-known-refusal
     blank-session-requires
     enum-known-header
-    marks-in-requires
-    first-marks-requires
-    no-percepts-requires
+    open-fit-requires
     returns
     returns-2)

@@ -1,6 +1,6 @@
 -- Play: a refused table leaves the record, an accepted one is consulted with its joint choice.
-use Rattle.referee.proofs.Asking.{refusing, accepting, asked-of}
-use Rattle.referee.proofs.Playing.{play-refused, play-accepted}
+use Rattle.calls.specs.Calls.{play}
+use Rattle.referee.proofs.Answering.{refusing, accepting, asked, answered, play-refused}
 use borrow.Author.Needs.{needs}
 use Rattle.referee.proofs.play.Statement.{statement}
 use Rattle.referee.proofs.play.Tie as tie
@@ -32,7 +32,7 @@ play-fit-requires c κs =
     let consult = c .before .before .before .before .before .before .before .consult in
     let header = c .before .before .before .before .before .header in
     let fits = accepting _ _ _ _ _ _ _ (consult .ensures) _ (header .given .1) in
-    asked-of (a .table .now) (a .session .position) (a .session .choices) fits
+    asked (a .table .now) (a .session .position) (a .session .choices) fits
 
 returns : tie.Need-returns
 returns c =
@@ -40,7 +40,7 @@ returns c =
     let consult = c .before .before .before .consult in
     let refusal = c .before .refusal in
     let unfit = refusing _ _ _ _ _ _ _ (consult .ensures) _ (refusal .given .1) in
-    play-refused (a .table .now) _ (a .session) unfit
+    play-refused (a .table .now) _ unfit (a .session)
 
 returns-2 : tie.Need-returns-2
 returns-2 c =
@@ -48,7 +48,7 @@ returns-2 c =
     let consult = c .before .before .before .before .before .before .before .before .consult in
     let header = c .before .before .before .before .before .before .header in
     let fits = accepting _ _ _ _ _ _ _ (consult .ensures) _ (header .given .1) in
-    play-accepted (a .table .now) _ (a .session .position) (a .session .choices) fits (c .play-fit .result) (a .session) (c .play-fit .ensures)
+    answered (a .table .now) _ fits (λ v. play v (a .session)) (c .play-fit .result) (c .play-fit .ensures)
 
 pub play-spec : {M : Type 1} → statement M
 play-spec =

@@ -2,7 +2,7 @@
 use Prim.Native.Nat.{_-_}
 use lib.ListN.{length}
 use borrow.Author.Needs.{needs}
-use Rattle.session.specs.Shape.{flagFits, inGrid, choiceWithin}
+use Rattle.session.specs.Shape.{choiceWithin}
 use Rattle.session.proofs.Fits.{Testing, testings}
 use Rattle.session.proofs.shape.choices_fit.Statement.{statement}
 use Rattle.session.proofs.shape.choices_fit.Tie as tie

@@ -1,7 +1,6 @@
 -- Up to record k the arrays hold the clauses read.
 use Prim.Native.Nat.{_-_}
 use borrow.Author.Needs.{needs}
-use native.Mathlib.Omega.{arith}
 use Rattle.table.proofs.ClauseRecords.{Laying, layings, few}
 use Rattle.table.proofs.clauses.read_clauses.Statement.{statement}
 use Rattle.table.proofs.clauses.read_clauses.Tie as tie

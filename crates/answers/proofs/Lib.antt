@@ -1,0 +1,10 @@
+pub mod Copying
+pub mod Writing
+pub mod Reading
+pub mod Asking
+pub mod Offering
+pub mod Opening
+pub mod Looking
+pub mod Telling
+pub mod Sending
+pub mod Playing
