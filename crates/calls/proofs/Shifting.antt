@@ -19,10 +19,8 @@ use Rattle.numbers.proofs.Reading.{one-within, two-within, three-within}
 use Rattle.refusals.specs.declared.Refusal.{Refusal}
 use Rattle.refusals.specs.declared.Refusal.the-variants.{OutOfRange, NotAbove, BytesAfter}
 use Rattle.table.specs.Parse.{Parse, ok, fault, after, refuse_if_, inRange, bounded}
-use Rattle.table.specs.Table.{sizes, firstBound, secondBound, field, atom, key, atomsFrom, literals, clause, clausesFrom, clauses}
+use Rattle.table.specs.Table.{Bound, Absent, Below, sizes, firstBound, secondBound, field, atom, key, atomsFrom, literals, clause, clausesFrom, clauses}
 use Rattle.table.specs.declared.header.Header.{Header}
-use Rattle.table.specs.declared.atoms.Bound.{Bound}
-use Rattle.table.specs.declared.atoms.Bound.the-variants.{Absent, Below}
 
 -- the same is left of s from n on as of t from m on
 pub record Left (s t : List ℕ) (n m : ℕ) : Type 0 where

@@ -14,12 +14,10 @@ use Rattle.gdl.specs.Game.{Atom, Literal, pos, neg, atomOf, Clause, Game}
 use Rattle.gdl.specs.Layout.{literalOf, literalsOf}
 use Rattle.gdl.proofs.Tests.{each-cons}
 use Rattle.table.specs.Parse.{Parse, ok, fault, after, refuse_if_, bounded}
-use Rattle.table.specs.Table.{players, sizes, header, firstBound, secondBound, field, atom, key, atomsFrom, literals, clause, clausesFrom, clauses, table, game}
+use Rattle.table.specs.Table.{Bound, Absent, Below, players, sizes, header, firstBound, secondBound, field, atom, key, atomsFrom, literals, clause, clausesFrom, clauses, table, game}
 use Rattle.table.specs.declared.header.Header.{Header}
 use Rattle.table.specs.declared.header.Players.{Players}
 use Rattle.table.specs.declared.header.Sizes.{Sizes}
-use Rattle.table.specs.declared.atoms.Bound.{Bound}
-use Rattle.table.specs.declared.atoms.Bound.the-variants.{Absent, Below}
 use Rattle.table.proofs.Values.{All, all-after, Fine, bounded-fine}
 use Rattle.rules.specs.Limits.{endOf, Limits}
 use Rattle.rules.proofs.Finding.{at-mem}

@@ -4,10 +4,8 @@ use Prim.Native.Nat.{ℕ, _≤_, _<_}
 use lib.ListN.{length, getD}
 use Rattle.gdl.specs.Game.{Literal, atomOf, Clause, Game, atomAt, kindOf}
 use Rattle.gdl.specs.Layout.{literalsOf}
-use Rattle.table.specs.Table.{firstBounds, secondBounds, key}
+use Rattle.table.specs.Table.{Bound, Absent, Below, firstBounds, secondBounds, key}
 use Rattle.table.specs.Says.{headerOf}
-use Rattle.table.specs.declared.atoms.Bound.{Bound}
-use Rattle.table.specs.declared.atoms.Bound.the-variants.{Absent, Below}
 
 -- what a field is below: "a field that a kind lacks counts as 0"
 abbrev pub endOf : Bound → ℕ

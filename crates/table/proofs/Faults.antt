@@ -12,10 +12,8 @@ use Rattle.refusals.specs.Refusal.{numberOf}
 use Rattle.refusals.specs.declared.Refusal.{Refusal}
 use Rattle.refusals.specs.declared.Refusal.the-variants.{OutOfRange, NotAbove, BytesAfter, TableTooLong}
 use Rattle.table.specs.Parse.{Parse, ok, fault, after, refuse_if_, inRange, bounded}
-use Rattle.table.specs.Table.{players, sizes, header, firstBound, secondBound, field, atom, key, atomsFrom, literals, clause, clausesFrom, clauses, game, table}
+use Rattle.table.specs.Table.{Bound, Absent, Below, players, sizes, header, firstBound, secondBound, field, atom, key, atomsFrom, literals, clause, clausesFrom, clauses, game, table}
 use Rattle.table.specs.declared.header.Header.{Header}
-use Rattle.table.specs.declared.atoms.Bound.{Bound}
-use Rattle.table.specs.declared.atoms.Bound.the-variants.{Absent, Below}
 
 -- a refusal of a table
 abbrev pub OfTable : Refusal → Type 0

@@ -1,7 +1,9 @@
 -- Laws of the readers, in the form in which the code's tests and answers meet them.
-use Prim.Native.Nat.{ℕ, _≤_, _<_, _+_}
-use mathlib.Core.Path.{_≡_}
+use Prim.Native.Nat.{ℕ, _≤_, _<_, _+_, _-_}
+use native.Mathlib.Omega.{arith}
+use mathlib.Core.Path.{_≡_, refl, sym, ap, subst, _∙_}
 use mathlib.Core.List.{List}
+use lib.ListN.{getD, List·getD-map}
 use borrow.Author.Tests.{le-leb, lt-leb, le-ltb, lt-ltb}
 use Rattle.numbers.specs.Number.{numberAt}
 use Rattle.numbers.specs.declared.Number.{Number}
@@ -9,14 +11,13 @@ use Rattle.numbers.specs.declared.Number.the-variants.{Read, Cut, Long, Large}
 use Rattle.refusals.specs.declared.Refusal.{Refusal}
 use Rattle.refusals.specs.declared.Refusal.the-variants.{InputEnds, NotANumber, OutOfRange}
 use Rattle.table.specs.Parse.{Parse, ok, fault, bounded}
-use Rattle.table.specs.Table.{players, sizes, header, field, firstBound, secondBound, atom}
-use Rattle.table.specs.Says.{fieldSays, playersSay, sizesSay}
+use Rattle.table.specs.Table.{Bound, Absent, Below, players, sizes, header, field, firstBounds, secondBounds, firstBound, secondBound, atom}
+use Rattle.table.specs.Says.{fieldSays, endOf, ends, EndsOf, playersSay, sizesSay}
+use Rattle.table.proofs.Values.{All, Fine, bounded-fine}
 use Rattle.table.specs.declared.fields.Field.{Field}
 use Rattle.table.specs.declared.fields.Field.the-variants as F
 use Rattle.table.specs.declared.fields.Item.{Item}
 use Rattle.table.specs.declared.header.Header.{Header}
-use Rattle.table.specs.declared.atoms.Bound.{Bound}
-use Rattle.table.specs.declared.atoms.Bound.the-variants.{Absent, Below}
 use Rattle.table.specs.declared.header.PlayersRead.{PlayersRead}
 use Rattle.table.specs.declared.header.PlayersRead.the-variants as P
 use Rattle.table.specs.declared.header.SizesRead.{SizesRead}
@@ -130,34 +131,53 @@ module _ (s : List ℕ) (r : PlayersRead) (e : playersSay r ≡ players s 0) whe
 
 pub ruleset header-laws = (no-players, no-sizes, all-header)
 
-module _ (s : List ℕ) (at : ℕ) (b : Bound) where
-  pub absent : b ≡ Absent → ok 0 at ≡ field b s at
+module _ (s : List ℕ) (at end : ℕ) where
+  pub absent : end ≡ 0 → (b : Bound) → endOf b ≡ end → ok 0 at ≡ field b s at
   unfolding field
-  absent h = rw h
+  absent z Absent e = refl
+  absent z (Below n) e = absurd (omega arith)
 
-  pub present : (n : ℕ) (p : Parse ℕ) → b ≡ Below n → p ≡ bounded 0 n s at → p ≡ field b s at
+  pub present : (end ≡ 0 → ⊥) → (p : Parse ℕ) → p ≡ bounded 0 (end - 1) s at → (b : Bound) → endOf b ≡ end → p ≡ field b s at
   unfolding field
-  present n p h e = rw (h, e)
+  present nz p e Absent q = absurd (nz (sym q))
+  present nz p e (Below n) q = let x : end - 1 ≡ n = omega arith in rw (e, x) refl
 
 pub ruleset field-laws = (absent, present)
 
-module _ (h : Header) (s : List ℕ) (at : ℕ) (r : Field) (e : fieldSays r ≡ bounded 0 10 s at) where
-  pub no-kind : (f : Refusal) → r ≡ F.Fault f → fault f ≡ atom h s at
+pub both-ends : (h : Header) (firsts seconds : List ℕ) → firsts ≡ ends (firstBounds h) → seconds ≡ ends (secondBounds h) → EndsOf h firsts seconds
+both-ends h firsts seconds e f = record { firsts-are = e; seconds-are = f }
+
+module _ (h : Header) (firsts seconds : List ℕ) (w : EndsOf h firsts seconds) (kind end : ℕ) where
+  first-end : end ≡ getD firsts kind 0 → endOf (firstBound h kind) ≡ end
+  unfolding firstBound
+  first-end e = sym (e ∙ ap (λ (l : List ℕ). getD l kind 0) (w .firsts-are) ∙ List·getD-map endOf (firstBounds h) kind Absent)
+
+  second-end : end ≡ getD seconds kind 0 → endOf (secondBound h kind) ≡ end
+  unfolding secondBound
+  second-end e = sym (e ∙ ap (λ (l : List ℕ). getD l kind 0) (w .seconds-are) ∙ List·getD-map endOf (secondBounds h) kind Absent)
+
+module _ (s : List ℕ) (at : ℕ) (r : Field) (e : fieldSays r ≡ bounded 0 10 s at) (firsts seconds : List ℕ) where
+  pub kind-low : (i : Item) → r ≡ F.Value i → i .value < 10
+  kind-low i g =
+      let h : All (Fine s at 0 10) (fieldSays r) = subst (All (Fine s at 0 10)) (sym e) (bounded-fine 0 10 s at) in
+      (rw g at h) .high
+
+  pub no-kind : (f : Refusal) → r ≡ F.Fault f → (h : Header) → EndsOf h firsts seconds → fault f ≡ atom h s at
   unfolding atom
-  no-kind f d = rw (← e, d)
+  no-kind f d h w = rw (← e, d)
 
-  module _ (i : Item) (g : r ≡ F.Value i) (b : Bound) (eb : b ≡ firstBound h (i .value)) (r1 : Field) (e1 : fieldSays r1 ≡ field b s (i .next)) where
-    pub no-first : (f : Refusal) → r1 ≡ F.Fault f → fault f ≡ atom h s at
+  module _ (i : Item) (g : r ≡ F.Value i) (n : ℕ) (en : n ≡ getD firsts (i .value) 0) (r1 : Field) (e1 : (b : Bound) → endOf b ≡ n → fieldSays r1 ≡ field b s (i .next)) where
+    pub no-first : (f : Refusal) → r1 ≡ F.Fault f → (h : Header) → EndsOf h firsts seconds → fault f ≡ atom h s at
     unfolding atom
-    no-first f d = rw (← e, g, ← eb, ← e1, d)
+    no-first f d h w = rw (← e, g, ← e1 (firstBound h (i .value)) (first-end h firsts seconds w (i .value) n en), d)
 
-    module _ (j : Item) (g1 : r1 ≡ F.Value j) (b2 : Bound) (eb2 : b2 ≡ secondBound h (i .value)) (r2 : Field) (e2 : fieldSays r2 ≡ field b2 s (j .next)) where
-      pub no-second : (f : Refusal) → r2 ≡ F.Fault f → fault f ≡ atom h s at
+    module _ (j : Item) (g1 : r1 ≡ F.Value j) (m : ℕ) (em : m ≡ getD seconds (i .value) 0) (r2 : Field) (e2 : (b : Bound) → endOf b ≡ m → fieldSays r2 ≡ field b s (j .next)) where
+      pub no-second : (f : Refusal) → r2 ≡ F.Fault f → (h : Header) → EndsOf h firsts seconds → fault f ≡ atom h s at
       unfolding atom
-      no-second f d = rw (← e, g, ← eb, ← e1, g1, ← eb2, ← e2, d)
+      no-second f d h w = rw (← e, g, ← e1 (firstBound h (i .value)) (first-end h firsts seconds w (i .value) n en), g1, ← e2 (secondBound h (i .value)) (second-end h firsts seconds w (i .value) m em), d)
 
-      pub all-atom : (k : Item) → r2 ≡ F.Value k → ok (record { kind = i .value; first = j .value; second = k .value }) (k .next) ≡ atom h s at
+      pub all-atom : (k : Item) → r2 ≡ F.Value k → (h : Header) → EndsOf h firsts seconds → ok (record { kind = i .value; first = j .value; second = k .value }) (k .next) ≡ atom h s at
       unfolding atom
-      all-atom k g2 = rw (← e, g, ← eb, ← e1, g1, ← eb2, ← e2, g2)
+      all-atom k g2 h w = rw (← e, g, ← e1 (firstBound h (i .value)) (first-end h firsts seconds w (i .value) n en), g1, ← e2 (secondBound h (i .value)) (second-end h firsts seconds w (i .value) m em), g2)
 
-pub ruleset atom-laws = (no-kind, no-first, no-second, all-atom)
+pub ruleset atom-laws = (kind-low, no-kind, no-first, no-second, all-atom)

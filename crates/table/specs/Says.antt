@@ -1,5 +1,5 @@
 -- What the code's answers say: each as the reading that it is, or as arrays that hold what was read.
-use Prim.Native.Nat.{ℕ}
+use Prim.Native.Nat.{ℕ, _+_}
 use mathlib.Core.Path.{_≡_}
 use mathlib.Core.List.{List, map}
 use lib.ListN.{length}
@@ -7,7 +7,7 @@ use lib.Seq.{sets}
 use Rattle.gdl.specs.Game.{Atom, Literal, Clause, Game}
 use Rattle.gdl.specs.Layout.{codeOf, kindsOf, firstsOf, secondsOf, headsOf, startsFrom, literalsOf, ownersOf}
 use Rattle.table.specs.Parse.{Parse, ok, fault}
-use Rattle.table.specs.Table.{key}
+use Rattle.table.specs.Table.{Bound, Absent, Below, firstBounds, secondBounds, key}
 use Rattle.table.specs.declared.fields.Field.{Field}
 use Rattle.table.specs.declared.fields.Field.the-variants as F
 use Rattle.table.specs.declared.header.Players.{Players}
@@ -46,6 +46,18 @@ sizesSay (Z.Fault f) = fault f
 abbrev pub headSays : Head → Parse Header
 headSays (H.Good h n) = ok h n
 headSays (H.Fault f) = fault f
+
+-- a bound as one number: 0 for none, else one more than its end
+abbrev pub endOf : Bound → ℕ
+endOf Absent = 0
+endOf (Below n) = n + 1
+
+abbrev pub ends : List Bound → List ℕ
+ends l = map endOf l
+
+pub record EndsOf (h : Header) (firsts seconds : List ℕ) : Type 0 where
+  pub firsts-are : firsts ≡ ends (firstBounds h)
+  pub seconds-are : seconds ≡ ends (secondBounds h)
 
 abbrev pub atomOf : AtomRecord → Atom
 atomOf a = record { kind = a .kind; first = a .first; second = a .second }

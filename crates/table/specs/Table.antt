@@ -10,8 +10,6 @@ use Rattle.table.specs.Parse.{Reader, _>>=_, give, place, size, refuse_i
 use Rattle.table.specs.declared.header.Players.{Players}
 use Rattle.table.specs.declared.header.Sizes.{Sizes}
 use Rattle.table.specs.declared.header.Header.{Header}
-use Rattle.table.specs.declared.atoms.Bound.{Bound}
-use Rattle.table.specs.declared.atoms.Bound.the-variants.{Absent, Below}
 
 -- "Version (1), claim (any value), seats R (1 to 8), chance seat (0 for none, else 1 to R, one more than the seat's number)"
 unfoldable pub players : Reader Players
@@ -36,6 +34,11 @@ header = do
   p ← players
   z ← sizes
   give (record { players = p; sizes = z })
+
+-- what a kind allows in a field: nothing, or a number below an end
+pub data Bound : Type 0 where
+  Absent : Bound
+  Below : ℕ → Bound
 
 -- the page's table of kinds: what the first field and the second of each kind are below
 abbrev pub firstBounds : Header → List Bound

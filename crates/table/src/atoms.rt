@@ -5,76 +5,47 @@ use crate::header::Header;
 use refusals::Refusal;
 ghost use mathlib.Core.Path.{_≡_};
 ghost use Prim.Native.Nat.{_≤_, _<_};
-ghost use Rattle.table.specs.Table.{firstBound, secondBound, field, atom, atomsFrom};
-ghost use Rattle.table.specs.Says.{fieldSays, atomSays, keyOf, WroteAtoms};
+ghost use Rattle.table.specs.declared.header.Header.{Header};
+ghost use Rattle.table.specs.Table.{Bound, firstBounds, secondBounds, field, atom, atomsFrom};
+ghost use Rattle.table.specs.Says.{fieldSays, endOf, ends, EndsOf, atomSays, keyOf, WroteAtoms};
 
-// What a kind allows in a field: nothing, or a number below an end.
-pub enum Bound {
-    Absent,
-    Below(u32),
+// What each kind allows in its first field: 0 where the kind lacks it, else one more than the end of its numbers. Made once for a table.
+fn first_ends(h: Header) -> [u32; 10]
+    ensures { λ r. ⌜ r ≡ ends (firstBounds h) ⌝ }
+{
+    let seat = h.players.seats as u32 + 1;
+    let fluent = h.sizes.fluents as u32 + 1;
+    [
+        1025,
+        seat,
+        fluent,
+        fluent,
+        seat,
+        seat,
+        fluent,
+        seat,
+        0,
+        seat,
+    ]
 }
 
-fn first_bound(h: Header, kind: u16) -> Bound
-    ensures { λ r. ⌜ r ≡ firstBound h kind ⌝ }
+// The same of the second field.
+fn second_ends(h: Header) -> [u32; 10]
+    ensures { λ r. ⌜ r ≡ ends (secondBounds h) ⌝ }
 {
-    if 10 <= kind {
-        return Bound::Absent;
-    }
-    let none = Bound::Absent;
-    let plain = Bound::Below(1024);
-    let seat = Bound::Below(h.players.seats as u32);
-    let fluent = Bound::Below(h.sizes.fluents as u32);
-    let kinds = [
-        plain,
-        seat,
-        fluent,
-        fluent,
-        seat,
-        seat,
-        fluent,
-        seat,
-        none,
-        seat,
-    ];
-    let k = kind as usize;
-    kinds[k]
-}
-
-fn second_bound(h: Header, kind: u16) -> Bound
-    ensures { λ r. ⌜ r ≡ secondBound h kind ⌝ }
-{
-    if 10 <= kind {
-        return Bound::Absent;
-    }
-    let none = Bound::Absent;
-    let plain = Bound::Below(1024);
-    let choice = Bound::Below(h.sizes.moves as u32);
-    let percept = Bound::Below(h.sizes.percepts as u32);
-    let value = Bound::Below(101);
-    let kinds = [
-        plain,
-        none,
-        none,
-        none,
-        choice,
-        choice,
-        none,
-        percept,
-        none,
-        value,
-    ];
-    let k = kind as usize;
-    kinds[k]
+    let choice = h.sizes.moves as u32 + 1;
+    let percept = h.sizes.percepts as u32 + 1;
+    [1025, 0, 0, 0, choice, choice, 0, percept, 0, 102]
 }
 
 // A field that a kind may lack: then it counts as 0 and takes no byte.
-fn read_optional(s: &[u8], at: usize, b: Bound) -> Field
-    ensures { λ r. ⌜ fieldSays r ≡ field b (now (s .entry)) at ⌝ }
+fn read_optional(s: &[u8], at: usize, end: u32) -> Field
+    ensures { λ r. ⌜ ((b : Bound) → endOf b ≡ end → fieldSays r ≡ field b (now (s .entry)) at) ⌝ }
 {
-    match b {
-        Bound::Absent => Field::Value(Item { value: 0, next: at }),
-        Bound::Below(end) => crate::fields::read_field(s, at, 0, end),
+    if end == 0 {
+        return Field::Value(Item { value: 0, next: at });
     }
+    crate::fields::read_field(s, at, 0, end - 1)
 }
 
 pub struct AtomRecord {
@@ -88,18 +59,19 @@ pub enum AtomRead {
     Fault(Refusal),
 }
 
-fn read_atom(s: &[u8], at: usize, h: Header) -> AtomRead
-    ensures { λ r. ⌜ atomSays r ≡ atom h (now (s .entry)) at ⌝ }
+fn read_atom(s: &[u8], at: usize, firsts: &[u32; 10], seconds: &[u32; 10]) -> AtomRead
+    ensures { λ r. ⌜ ((h : Header) → EndsOf h (now (firsts .entry)) (now (seconds .entry)) → atomSays r ≡ atom h (now (s .entry)) at) ⌝ }
 {
     let kind = match crate::fields::read_field(s, at, 0, 10) {
         Field::Value(i) => i,
         Field::Fault(f) => return AtomRead::Fault(f),
     };
-    let first = match read_optional(s, kind.next, first_bound(h, kind.value)) {
+    let k = kind.value as usize;
+    let first = match read_optional(s, kind.next, firsts[k]) {
         Field::Value(i) => i,
         Field::Fault(f) => return AtomRead::Fault(f),
     };
-    let second = match read_optional(s, first.next, second_bound(h, kind.value)) {
+    let second = match read_optional(s, first.next, seconds[k]) {
         Field::Value(i) => i,
         Field::Fault(f) => return AtomRead::Fault(f),
     };
@@ -138,12 +110,13 @@ pub fn read_atoms(
     requires { ⌜ h .sizes .atoms ≤ 1024 ⌝ }
     ensures { λ r. ⌜ WroteAtoms (atomsFrom h (h .sizes .atoms) 0 (now (s .entry)) at) (now (kinds .entry)) (now (firsts .entry)) (now (seconds .entry)) r (now (kinds .exit)) (now (firsts .exit)) (now (seconds .exit)) ⌝ }
 {
-    let n = h.sizes.atoms as usize;
+    let first_ends = first_ends(h);
+    let second_ends = second_ends(h);
     let mut k: usize = 0;
     let mut least: u64 = 0;
     let mut next = at;
-    while k < n {
-        match read_atom(s, next, h) {
+    while k < h.sizes.atoms as usize {
+        match read_atom(s, next, &first_ends, &second_ends) {
             AtomRead::Fault(f) => return Records::Fault(f),
             AtomRead::Good(a, end) => {
                 let key = key_of(a);
