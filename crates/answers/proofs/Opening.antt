@@ -17,7 +17,6 @@ use Rattle.gdl.proofs.Walks.{flags-length, flag-is}
 use Rattle.rules.specs.Verdict.{fit}
 use Rattle.rules.specs.Limits.{firstEnd, secondEnd}
 use Rattle.rules.specs.Accepted.{Accepted}
-use Rattle.rules.proofs.Accepting.{accepted}
 use Rattle.session.specs.Shape.{fluentFits}
 use Rattle.truth.specs.Marks.{isAt, marksOf}
 use Rattle.verdict.specs.Consulted.{Consulted, foundIn}

@@ -147,14 +147,18 @@ pub ruleset field-laws = (absent, present)
 pub both-ends : (h : Header) (firsts seconds : List ℕ) → firsts ≡ ends (firstBounds h) → seconds ≡ ends (secondBounds h) → EndsOf h firsts seconds
 both-ends h firsts seconds e f = record { firsts-are = e; seconds-are = f }
 
+-- the number of a bound is found at its kind
+end-at : (bounds : List Bound) (l : List ℕ) → l ≡ ends bounds → (kind end : ℕ) → end ≡ getD l kind 0 → endOf (getD bounds kind Absent) ≡ end
+end-at bounds l w kind end e = sym (e ∙ ap (λ (x : List ℕ). getD x kind 0) w ∙ List·getD-map endOf bounds kind Absent)
+
 module _ (h : Header) (firsts seconds : List ℕ) (w : EndsOf h firsts seconds) (kind end : ℕ) where
   first-end : end ≡ getD firsts kind 0 → endOf (firstBound h kind) ≡ end
   unfolding firstBound
-  first-end e = sym (e ∙ ap (λ (l : List ℕ). getD l kind 0) (w .firsts-are) ∙ List·getD-map endOf (firstBounds h) kind Absent)
+  first-end = end-at (firstBounds h) firsts (w .firsts-are) kind end
 
   second-end : end ≡ getD seconds kind 0 → endOf (secondBound h kind) ≡ end
   unfolding secondBound
-  second-end e = sym (e ∙ ap (λ (l : List ℕ). getD l kind 0) (w .seconds-are) ∙ List·getD-map endOf (secondBounds h) kind Absent)
+  second-end = end-at (secondBounds h) seconds (w .seconds-are) kind end
 
 module _ (s : List ℕ) (at : ℕ) (r : Field) (e : fieldSays r ≡ bounded 0 10 s at) (firsts seconds : List ℕ) where
   pub kind-low : (i : Item) → r ≡ F.Value i → i .value < 10
