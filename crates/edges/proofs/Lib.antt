@@ -1,7 +1,9 @@
 pub mod Setting
+pub mod Chains
 pub mod Drawing
 pub mod Depending
 pub mod Indexing
 pub mod Marking
+pub mod Closing
 pub mod Visiting
 pub mod Determined

@@ -1,21 +1,21 @@
--- The laws of one mark more, and of the seeds.
-use mathlib.Core.Path.{_≡_, refl, ap, _∙_}
-use mathlib.Core.Logic.{_⊎_, inl, inr, ⊎-elim}
+-- The laws of one mark more, of some more, and of the seeds.
+use mathlib.Core.Path.{_≡_, refl, ap, subst, _∙_}
+use mathlib.Core.Logic.{_⊎_, inl, inr}
 use mathlib.Core.List.{List, [], _∷_}
 use Prim.Native.Nat.{ℕ, zero, suc, _+_, _*_, _<_, _≤_}
 use native.Mathlib.Nat.{not-suc-le-zero}
+use native.Mathlib.Numerals.{add-one}
 use native.Mathlib.Omega.{arith}
-use lib.ListN.{length, getD, set, length-set, length-replicate}
+use lib.Dec.{eqb}
+use lib.ListN.{length, getD, set, take, length-set, length-take, length-replicate}
 use lib.Seq.{getD-set-same, getD-set-other}
 use mir.Syntax.{w64}
 use mir.Val.{Fits}
-use borrow.Author.Tests.{ne-eqb}
+use borrow.Author.Tests.{eq-eqb, ne-eqb}
 use borrow.Author.Count.{below-more}
 use Rattle.gdl.specs.Flags.{bit, count}
 use Rattle.gdl.proofs.Closing.{count-length}
-use Rattle.edges.specs.Graph.{startOf}
-use Rattle.edges.specs.Marks.{noMarks, Markable, Marked, Taken, Done, Waits, Work, Gathering, Gathered}
-use Rattle.edges.specs.Closure.{SeedsBelow}
+use Rattle.edges.specs.Marks.{noMarks, Markable, Marked, Waits, Queue, Joined, Waiting, Seeded, Lined, Gathered}
 use Rattle.edges.proofs.Setting.{after-set, blank-at}
 
 count-set : (m : List ℕ) (i : ℕ) → i < length m → (getD m i 0 ≡ 1 → ⊥) → count (set m i 1) ≡ suc (count m)
@@ -27,7 +27,7 @@ count-set (x ∷ xs) (suc i) lt ne = omega (arith, count-set xs i (omega arith) 
 -- a node that is not marked leaves room in the queue
 module _ (h : ℕ) (m : List ℕ) (n : ℕ) (g : Markable h m n) (ne : getD m h 0 ≡ 1 → ⊥) where
   pub has-room : n < 1024
-  has-room = omega (arith, count-set m h (omega (arith, g .node, g .long)) ne, count-length (set m h 1), length-set m h 1, g .long, g .room)
+  has-room = omega (arith, count-set m h (omega (arith, g .node, g .has .long)) ne, count-length (set m h 1), length-set m h 1, g .has .long, g .has .room)
 
   pub has-room-scaled : Fits w64 (n * 2)
   has-room-scaled = omega (arith, has-room)
@@ -40,74 +40,79 @@ mark-fresh h m q n ne = inr (ne, record { marks = refl; queue = refl; many = ref
 
 pub ruleset markings = (has-room, has-room-scaled, mark-already, mark-fresh)
 
--- ---- what one mark keeps
+-- ---- nodes that join
 
-pub record Kept (from to : List ℕ) (h : ℕ) (m q : List ℕ) (at n : ℕ) (m′ q′ : List ℕ) (n′ : ℕ) : Type 0 where
-  pub work : Work from to m′ q′ at n′
-  pub keeps : (p : ℕ) → getD m p 0 ≡ 1 → getD m′ p 0 ≡ 1
-  pub only : (p : ℕ) → getD m′ p 0 ≡ 1 → (getD m p 0 ≡ 1) ⊎ (p ≡ h)
+pub joined-none : {P : ℕ → Type 0} {m q : List ℕ} {n : ℕ} → Queue m q n → Joined P m q n m q n
+joined-none w = record { keeps = λ p e. e; new = λ p e. inl e; before = λ j b. refl; more = omega arith; queue = w }
+
+pub joined-more : {P : ℕ → Type 0} {m q : List ℕ} {n : ℕ} {m′ q′ : List ℕ} {n′ : ℕ} {m″ q″ : List ℕ} {n″ : ℕ}
+    → Joined P m q n m′ q′ n′ → Joined P m′ q′ n′ m″ q″ n″ → Joined P m q n m″ q″ n″
+joined-more a b = record {
+  keeps = λ p e. b .keeps p (a .keeps p e);
+  new = λ p e. elim (b .new p e) [
+    | inl f ↦ elim (a .new p f) [
+      | inl g ↦ inl g
+      | inr (x, w) ↦ inr (x, record { j = w .j; from = w .from; to = omega (arith, w .to, b .more); is = b .before (w .j) (w .to) ∙ w .is })
+    ]
+    | inr (x, w) ↦ inr (x, record { j = w .j; from = omega (arith, w .from, a .more); to = w .to; is = w .is })
+  ];
+  before = λ j lt. b .before j (omega (arith, a .more)) ∙ a .before j lt;
+  more = omega (arith, a .more, b .more);
+  queue = b .queue;
+}
+
+pub joined-as : {P Q : ℕ → Type 0} {m q : List ℕ} {n : ℕ} {m′ q′ : List ℕ} {n′ : ℕ} → ((p : ℕ) → P p → Q p) → Joined P m q n m′ q′ n′ → Joined Q m q n m′ q′ n′
+joined-as f a = record {
+  keeps = a .keeps;
+  new = λ p e. elim (a .new p e) [ inl g ↦ inl g | inr (x, w) ↦ inr (f p x, w) ];
+  before = a .before;
+  more = a .more;
+  queue = a .queue;
+}
+
+-- ---- one node
+
+pub record One (P : ℕ → Type 0) (h : ℕ) (m q : List ℕ) (n : ℕ) (m′ q′ : List ℕ) (n′ : ℕ) : Type 0 where
+  pub joined : Joined P m q n m′ q′ n′
   pub here : getD m′ h 0 ≡ 1
-  pub queue : (j : ℕ) → j < n → getD q′ j 0 ≡ getD q j 0
-  pub more : n ≤ n′
 
-module _ {from to : List ℕ} (h : ℕ) (m q : List ℕ) (at n : ℕ) (lt : h < 1024) (w : Work from to m q at n) where
-  pub markable : Markable h m n
-  markable = record { node = lt; long = w .marks-long; room = w .room }
-
-  kept-already : getD m h 0 ≡ 1 → Kept from to h m q at n m q n
-  kept-already e = record { work = w; keeps = λ p k. k; only = λ p k. inl k; here = e; queue = λ j b. refl; more = omega arith }
-
-  kept-fresh : (getD m h 0 ≡ 1 → ⊥) → Kept from to h m q at n (set m h 1) (set q n h) (n + 1)
-  kept-fresh ne = record {
-    work = record {
-      each = after-set m h 1 inm (λ p x. x ≡ 1 → Done from to (set m h 1) p ⊎ Waits (set q n h) at (n + 1) p)
-          (λ e. inr (record { j = n; from = w .order; to = omega arith; is = getD-set-same q n h 0 inq }))
-          (λ p np e. ⊎-elim
-          (λ d. inl (record { at = λ k b s. grow (startOf from k) (d .at k b s) }))
-          (λ v. inr (record { j = v .j; from = v .from; to = omega (arith, v .to); is = same (v .j) (v .to) ∙ v .is }))
-          (w .each p e));
-      marked = after-set q n h inq (λ j x. j < n + 1 → getD (set m h 1) x 0 ≡ 1)
-          (λ b. getD-set-same m h 1 0 inm)
-          (λ j nj b. grow (getD q j 0) (w .marked j (omega arith)));
-      nodes = after-set q n h inq (λ j x. j < n + 1 → x < 1024) (λ b. lt) (λ j nj b. w .nodes j (omega arith));
-      room = omega (arith, w .room, count-set m h inm ne);
-      flags = after-set m h 1 inm (λ p x. x ≤ 1) (omega arith) (λ p np. w .flags p);
-      marks-long = length-set m h 1 ∙ w .marks-long;
-      queue-long = length-set q n h ∙ w .queue-long;
-      order = omega (arith, w .order);
+module _ {P : ℕ → Type 0} {h : ℕ} {m q : List ℕ} {n : ℕ} (lt : h < 1024) (is : P h) (w : Queue m q n) where
+  one-fresh : (getD m h 0 ≡ 1 → ⊥) → One P h m q n (set m h 1) (set q n h) (n + 1)
+  one-fresh ne = record {
+    joined = record {
+      keeps = grow;
+      new = after-set m h 1 inm (λ p x. x ≡ 1 → (getD m p 0 ≡ 1) ⊎ (P p × Waits (set q n h) n (n + 1) p))
+          (λ e. inr (is, record { j = n; from = omega arith; to = omega arith; is = getD-set-same q n h 0 inq }))
+          (λ p np e. inl e);
+      before = λ j b. getD-set-other q n j h 0 (λ e. omega arith);
+      more = omega arith;
+      queue = record {
+        marked = after-set q n h inq (λ j x. j < n + 1 → getD (set m h 1) x 0 ≡ 1)
+            (λ b. getD-set-same m h 1 0 inm)
+            (λ j nj b. grow (getD q j 0) (w .marked j (omega arith)));
+        nodes = after-set q n h inq (λ j x. j < n + 1 → x < 1024) (λ b. lt) (λ j nj b. w .nodes j (omega arith));
+        flags = after-set m h 1 inm (λ p x. x ≤ 1) (omega arith) (λ p np. w .flags p);
+        has = record { long = length-set m h 1 ∙ w .has .long; room = omega (arith, w .has .room, count-set m h inm ne) };
+        queue-long = length-set q n h ∙ w .queue-long;
+      };
     };
-    keeps = grow;
-    only = after-set m h 1 inm (λ p x. x ≡ 1 → (getD m p 0 ≡ 1) ⊎ (p ≡ h)) (λ e. inr refl) (λ p np e. inl e);
     here = getD-set-same m h 1 0 inm;
-    queue = same;
-    more = omega arith;
   }
     where
       inm : h < length m
-      inm = omega (arith, w .marks-long)
+      inm = omega (arith, w .has .long)
 
       inq : n < length q
-      inq = omega (arith, w .queue-long, has-room h m n markable ne)
+      inq = omega (arith, w .queue-long, has-room h m n (record { node = lt; has = w .has }) ne)
 
       grow : (p : ℕ) → getD m p 0 ≡ 1 → getD (set m h 1) p 0 ≡ 1
       grow = after-set m h 1 inm (λ p x. getD m p 0 ≡ 1 → x ≡ 1) (λ e. refl) (λ p np e. e)
 
-      same : (j : ℕ) → j < n → getD (set q n h) j 0 ≡ getD q j 0
-      same j b = getD-set-other q n j h 0 (λ e. omega arith)
-
-  pub kept : (m′ q′ : List ℕ) (n′ : ℕ) → Marked h m q n m′ q′ n′ → Kept from to h m q at n m′ q′ n′
-  kept m′ q′ n′ (inl (e, s)) = rw (s .marks, s .queue, s .many) (kept-already e)
-  kept m′ q′ n′ (inr (ne, j)) = rw (j .marks, j .queue, j .many) (kept-fresh ne)
+  pub one : {m′ q′ : List ℕ} {n′ : ℕ} → Marked h m q n m′ q′ n′ → One P h m q n m′ q′ n′
+  one (inl (e, s)) = rw (s .marks, s .queue, s .many) (record { joined = joined-none w; here = e })
+  one (inr (ne, j)) = rw (j .marks, j .queue, j .many) (one-fresh ne)
 
 -- ---- the seeds
-
-pub take-some : (s p : ℕ) (m q : List ℕ) (n : ℕ) (m′ q′ : List ℕ) (n′ : ℕ) → s ≡ 1 → Marked p m q n m′ q′ n′ → Taken s p m q n m′ q′ n′
-take-some s p m q n m′ q′ n′ e k = inl (e, k)
-
-pub take-none : (s p : ℕ) (m q : List ℕ) (n : ℕ) → (s ≡ 1 → ⊥) → Taken s p m q n m q n
-take-none s p m q n ne = inr (ne, record { marks = refl; queue = refl; many = refl })
-
-pub ruleset takings = (take-some, take-none)
 
 pub unset : (p : ℕ) → getD noMarks p 0 ≡ 0
 unfolding noMarks
@@ -117,44 +122,101 @@ pub no-marks-long : length noMarks ≡ 1024
 unfolding noMarks
 no-marks-long = length-replicate {A = ℕ} 1024 0
 
-pub gather-starts : (seeds m q : List ℕ) (size : ℕ) → Gathering seeds size m q → Gathered seeds m q 0 0
-gather-starts seeds m q size g = rw (g .unmarked, g .unqueued) (record {
-  work = λ from to. record {
-    each = λ p e. absurd (omega (arith, unset p));
+-- marks made one by one
+pub waiting-none : (m q : List ℕ) → m ≡ noMarks → q ≡ noMarks → Waiting m q 0
+waiting-none m q em eq = rw (em, eq) (record {
+  queue = record {
     marked = λ j lt. absurd (not-suc-le-zero lt);
     nodes = λ j lt. absurd (not-suc-le-zero lt);
-    room = omega arith;
     flags = λ p. omega (arith, unset p);
-    marks-long = no-marks-long;
+    has = record { long = no-marks-long; room = omega arith };
     queue-long = no-marks-long;
-    order = omega arith;
   };
-  given = λ j e. absurd (omega (arith, unset j));
-  all = λ j lt. absurd (not-suc-le-zero lt);
+  waits = λ j e. absurd (omega (arith, unset j));
 })
 
-module _ (seeds m q : List ℕ) (p n size : ℕ) (i : Gathered seeds m q p n) (below : p < size) (b : SeedsBelow seeds size) where
-  lt : p < 1024
-  lt = omega (arith, b .few)
+pub waiting-more : {P : ℕ → Type 0} {m q : List ℕ} {n : ℕ} {m′ q′ : List ℕ} {n′ : ℕ} → Waiting m q n → Joined P m q n m′ q′ n′ → Waiting m′ q′ n′
+waiting-more w a = record {
+  queue = a .queue;
+  waits = λ p e. elim (a .new p e) [
+    | inl f ↦ let v = w .waits p f in record { j = v .j; from = v .from; to = omega (arith, v .to, a .more); is = a .before (v .j) (v .to) ∙ v .is }
+    | inr (x, v) ↦ record { j = v .j; from = omega arith; to = v .to; is = v .is }
+  ];
+}
 
-  pub gather-markable : Markable p m n
-  gather-markable = markable p m q 0 n lt (i .work [] [])
+-- marks that are lent, queued one by one
+pub lined-some : (x p : ℕ) (q : List ℕ) (n : ℕ) → x ≡ 1 → Lined x p q n (set q n p) (n + 1)
+lined-some x p q n e = inl (e, refl, refl)
 
-  pub gather-more : (m′ q′ : List ℕ) (n′ : ℕ) → Taken (getD seeds p 0) p m q n m′ q′ n′ → Gathered seeds m′ q′ (p + 1) n′
-  gather-more m′ q′ n′ (inl (e, k)) =
-      let w : (from to : List ℕ) → Kept from to p m q 0 n m′ q′ n′ = λ from to. kept p m q 0 n lt (i .work from to) m′ q′ n′ k in
-      record {
-        work = λ from to. w from to .work;
-        given = λ j g. elim (w [] [] .only j g) [ inl a ↦ i .given j a | inr a ↦ rw a e ];
-        all = below-more (λ (j : ℕ). getD seeds j 0 ≡ 1 → getD m′ j 0 ≡ 1) p (λ j b g. w [] [] .keeps j (i .all j b g)) (λ g. w [] [] .here);
-      }
-  gather-more m′ q′ n′ (inr (ne, k)) = rw (k .marks, k .queue, k .many) (record {
-    work = i .work;
-    given = i .given;
-    all = below-more (λ (j : ℕ). getD seeds j 0 ≡ 1 → getD m j 0 ≡ 1) p (i .all) (λ g. absurd (ne g));
-  })
+pub lined-none : (x p : ℕ) (q : List ℕ) (n : ℕ) → (x ≡ 1 → ⊥) → Lined x p q n q n
+lined-none x p q n ne = inr (ne, refl, refl)
 
-pub gather-done : (seeds m q : List ℕ) (p n size : ℕ) → Gathered seeds m q p n → size ≤ p → Gathered seeds m q size n
-gather-done seeds m q p n size i le = record { work = i .work; given = i .given; all = λ j lt. i .all j (omega arith) }
+pub ruleset linings = (lined-some, lined-none)
 
-pub ruleset gatherings = (gather-starts, gather-markable, gather-more, gather-done)
+count-take : (m : List ℕ) (p : ℕ) → p < length m → count (take (suc p) m) ≡ count (take p m) + bit (eqb (getD m p 0) 1)
+unfolding count
+count-take [] p lt = absurd (not-suc-le-zero lt)
+count-take (x ∷ m) zero lt = omega arith
+count-take (x ∷ m) (suc p) lt = omega (arith, count-take m p (omega arith))
+
+take-few : (m : List ℕ) (p : ℕ) → count (take p m) ≤ p
+take-few m p = omega (arith, count-length (take p m), length-take p m)
+
+take-under : (m : List ℕ) (p : ℕ) → count (take p m) ≤ count m
+unfolding count
+take-under m zero = omega arith
+take-under [] (suc p) = omega arith
+take-under (x ∷ m) (suc p) = omega (arith, take-under m p)
+
+module _ (m : List ℕ) (size : ℕ) (s : Seeded m size) where
+  pub gather-starts : (q : List ℕ) → q ≡ noMarks → Gathered m q 0 0
+  gather-starts q e = record {
+    marked = λ j lt. absurd (not-suc-le-zero lt);
+    nodes = λ j lt. absurd (not-suc-le-zero lt);
+    waits = λ j lt. absurd (not-suc-le-zero lt);
+    room = omega arith;
+    queue-long = rw e no-marks-long;
+  }
+
+  module _ (q : List ℕ) (p n : ℕ) (i : Gathered m q p n) where
+    module _ (lt : p < size) where
+      pub gather-node : p < 1024
+      gather-node = omega (arith, s .few)
+
+      pub gather-room : n < 1024
+      gather-room = omega (arith, i .room, take-few m p, gather-node)
+
+      pub gather-more : (q′ : List ℕ) (n′ : ℕ) → Lined (getD m p 0) p q n q′ n′ → Gathered m q′ (p + 1) n′
+      gather-more q′ n′ (inl (e, eq, en)) = rw (eq, en) (record {
+        marked = after-set q n p inq (λ j x. j < n + 1 → getD m x 0 ≡ 1) (λ b. e) (λ j nj b. i .marked j (omega arith));
+        nodes = after-set q n p inq (λ j x. j < n + 1 → x < 1024) (λ b. gather-node) (λ j nj b. i .nodes j (omega arith));
+        waits = below-more (λ (j : ℕ). getD m j 0 ≡ 1 → Waits (set q n p) 0 (n + 1) j) p
+            (λ j b f. let v = i .waits j b f in record { j = v .j; from = v .from; to = omega (arith, v .to); is = getD-set-other q n (v .j) p 0 (λ z. omega (arith, v .to)) ∙ v .is })
+            (λ f. record { j = n; from = omega arith; to = omega arith; is = getD-set-same q n p 0 inq });
+        room = rw (add-one p, add-one n) (omega (arith, i .room, count-take m p inm, ap bit (eq-eqb (getD m p 0) 1 e)));
+        queue-long = length-set q n p ∙ i .queue-long;
+      })
+        where
+          inq : n < length q
+          inq = omega (arith, i .queue-long, gather-room)
+
+          inm : p < length m
+          inm = omega (arith, s .long, gather-node)
+      gather-more q′ n′ (inr (ne, eq, en)) = rw (eq, en) (record {
+        marked = i .marked;
+        nodes = i .nodes;
+        waits = below-more (λ (j : ℕ). getD m j 0 ≡ 1 → Waits q 0 n j) p (i .waits) (λ f. absurd (ne f));
+        room = rw (add-one p) (omega (arith, i .room, count-take m p (omega (arith, s .long, gather-node))));
+        queue-long = i .queue-long;
+      })
+
+    pub gather-done : p ≤ size → size ≤ p → Gathered m q size n
+    gather-done le ge = let e : p ≡ size = omega arith in subst (λ (x : ℕ). Gathered m q x n) e i
+
+  pub gathered-waits : (q : List ℕ) (n : ℕ) → Gathered m q size n → Waiting m q n
+  gathered-waits q n g = record {
+    queue = record { marked = g .marked; nodes = g .nodes; flags = s .flags; has = record { long = s .long; room = omega (arith, g .room, take-under m size) }; queue-long = g .queue-long };
+    waits = λ p e. g .waits p (let no : size ≤ p → ⊥ = λ le. omega (arith, s .past p le) in omega arith) e;
+  }
+
+pub ruleset gatherings = (gather-starts, gather-node, gather-room, gather-more, gather-done)

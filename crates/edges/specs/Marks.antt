@@ -4,11 +4,10 @@ use mathlib.Core.Logic.{_⊎_}
 use mathlib.Core.List.{List}
 use Prim.Native.Nat.{ℕ, _+_, _<_, _≤_}
 use lib.Dec.{T}
-use lib.ListN.{length, getD, set, replicate}
+use lib.ListN.{length, getD, set, take, replicate}
 use Rattle.gdl.specs.Sets.{Atoms}
 use Rattle.gdl.specs.Flags.{count}
-use Rattle.edges.specs.Graph.{startOf, endOf}
-use Rattle.edges.specs.Closure.{Backward, SeedsBelow}
+use Rattle.edges.specs.Closure.{Shut, Back}
 use Rattle.edges.specs.Uses.{Index}
 
 -- no node is marked, and none queued
@@ -17,11 +16,15 @@ noMarks = replicate 1024 0
 
 -- ---- one node
 
--- node h can be marked: a queue of n places has room for it, since each marked node is queued once
-pub record Markable (h : ℕ) (m : List ℕ) (n : ℕ) : Type 0 where
-  pub node : h < 1024
+-- a queue of n places has room for a node that is not marked, since each marked node is queued once
+pub record Room (m : List ℕ) (n : ℕ) : Type 0 where
   pub long : length m ≡ 1024
   pub room : n ≤ count m
+
+-- node h can be marked
+pub record Markable (h : ℕ) (m : List ℕ) (n : ℕ) : Type 0 where
+  pub node : h < 1024
+  pub has : Room m n
 
 -- marks m, queue q and its number n stay as they were
 pub record Stays (m q : List ℕ) (n : ℕ) (m′ q′ : List ℕ) (n′ : ℕ) : Type 0 where
@@ -39,15 +42,7 @@ pub record Joins (h : ℕ) (m q : List ℕ) (n : ℕ) (m′ q′ : List ℕ) (n�
 abbrev pub Marked : ℕ → List ℕ → List ℕ → ℕ → List ℕ → List ℕ → ℕ → Type 0
 Marked h m q n m′ q′ n′ = ((getD m h 0 ≡ 1) × Stays m q n m′ q′ n′) ⊎ ((getD m h 0 ≡ 1 → ⊥) × Joins h m q n m′ q′ n′)
 
--- p is marked, if its seed s is 1
-abbrev pub Taken : ℕ → ℕ → List ℕ → List ℕ → ℕ → List ℕ → List ℕ → ℕ → Type 0
-Taken s p m q n m′ q′ n′ = ((s ≡ 1) × Marked p m q n m′ q′ n′) ⊎ ((s ≡ 1 → ⊥) × Stays m q n m′ q′ n′)
-
--- ---- all marks so far
-
--- the starts of the edges that end at p are marked
-pub record Done (from to m : List ℕ) (p : ℕ) : Type 0 where
-  pub at : (k : ℕ) → k < length to → endOf to k ≡ p → getD m (startOf from k) 0 ≡ 1
+-- ---- some nodes
 
 -- p stands in the queue, at a place from `at` up to `n`
 pub record Waits (q : List ℕ) (at n p : ℕ) : Type 0 where
@@ -56,41 +51,86 @@ pub record Waits (q : List ℕ) (at n p : ℕ) : Type 0 where
   pub to : j < n
   pub is : getD q j 0 ≡ p
 
--- the marks m and the queue q, of n nodes, of which those before `at` are done: each marked node is done or waits, and each that is queued is marked
-pub record Work (from to m q : List ℕ) (at n : ℕ) : Type 0 where
-  pub each : (p : ℕ) → getD m p 0 ≡ 1 → Done from to m p ⊎ Waits q at n p
+-- the marks m and the queue q of n nodes: each that is queued is marked
+pub record Queue (m q : List ℕ) (n : ℕ) : Type 0 where
   pub marked : (j : ℕ) → j < n → getD m (getD q j 0) 0 ≡ 1
   pub nodes : (j : ℕ) → j < n → getD q j 0 < 1024
-  pub room : n ≤ count m
   pub flags : (p : ℕ) → getD m p 0 ≤ 1
-  pub marks-long : length m ≡ 1024
+  pub has : Room m n
   pub queue-long : length q ≡ 1024
+
+-- nodes for which P holds joined: no mark is lost, and each new one waits behind the others
+pub record Joined (P : ℕ → Type 0) (m q : List ℕ) (n : ℕ) (m′ q′ : List ℕ) (n′ : ℕ) : Type 0 where
+  pub keeps : (p : ℕ) → getD m p 0 ≡ 1 → getD m′ p 0 ≡ 1
+  pub new : (p : ℕ) → getD m′ p 0 ≡ 1 → (getD m p 0 ≡ 1) ⊎ (P p × Waits q′ n n′ p)
+  pub before : (j : ℕ) → j < n → getD q′ j 0 ≡ getD q j 0
+  pub more : n ≤ n′
+  pub queue : Queue m′ q′ n′
+
+-- and all of these are marked
+pub record Brought (P : ℕ → Type 0) (m q : List ℕ) (n : ℕ) (m′ q′ : List ℕ) (n′ : ℕ) : Type 0 where
+  pub joined : Joined P m q n m′ q′ n′
+  pub all : (h : ℕ) → P h → getD m′ h 0 ≡ 1
+
+-- ---- all marks so far
+
+-- what p brings in is marked
+pub record Done (Brings : ℕ → ℕ → Type 0) (m : List ℕ) (p : ℕ) : Type 0 where
+  pub at : (h : ℕ) → Brings p h → getD m h 0 ≡ 1
+
+-- of the queue those before `at` are done: each marked node is done or waits
+pub record Work (Brings : ℕ → ℕ → Type 0) (m q : List ℕ) (at n : ℕ) : Type 0 where
+  pub each : (p : ℕ) → getD m p 0 ≡ 1 → Done Brings m p ⊎ Waits q at n p
+  pub queue : Queue m q n
   pub order : at ≤ n
 
--- the marks m became m′: none is lost, and every set that is closed backward and holds m holds m′
-pub record Grew (from to m m′ : List ℕ) : Type 0 where
+-- the marks m became m′: none is lost, and every set that is shut and holds m holds m′
+pub record Grew (Brings : ℕ → ℕ → Type 0) (m m′ : List ℕ) : Type 0 where
   pub keeps : (p : ℕ) → getD m p 0 ≡ 1 → getD m′ p 0 ≡ 1
-  pub least : (Y : Atoms) → Backward from to Y → ((p : ℕ) → getD m p 0 ≡ 1 → T (Y p)) → (p : ℕ) → getD m′ p 0 ≡ 1 → T (Y p)
+  pub least : (Y : Atoms) → Shut Brings Y → ((p : ℕ) → getD m p 0 ≡ 1 → T (Y p)) → (p : ℕ) → getD m′ p 0 ≡ 1 → T (Y p)
 
--- a node waits at `at`, and its uses are indexed
-pub record Visit (from to first next m q : List ℕ) (at n : ℕ) : Type 0 where
-  pub index : Index from to first next
-  pub work : Work from to m q at n
+-- a node waits at `at`
+pub record Turn (Brings : ℕ → ℕ → Type 0) (m q : List ℕ) (at n : ℕ) : Type 0 where
+  pub work : Work Brings m q at n
   pub waits : at < n
 
 -- that node is done
-pub record Visited (from to m q : List ℕ) (at : ℕ) (m′ q′ : List ℕ) (n′ : ℕ) : Type 0 where
-  pub grew : Grew from to m m′
-  pub work : Work from to m′ q′ (at + 1) n′
+pub record Visited (Brings : ℕ → ℕ → Type 0) (m : List ℕ) (at : ℕ) (m′ q′ : List ℕ) (n′ : ℕ) : Type 0 where
+  pub grew : Grew Brings m m′
+  pub work : Work Brings m′ q′ (at + 1) n′
 
--- seeds below `size`, and nothing marked or queued yet
-pub record Gathering (seeds : List ℕ) (size : ℕ) (m q : List ℕ) : Type 0 where
-  pub below : SeedsBelow seeds size
-  pub unmarked : m ≡ noMarks
-  pub unqueued : q ≡ noMarks
+-- a node waits at `at`, and the edges are indexed
+pub record Visit (from to first next m q : List ℕ) (at n : ℕ) : Type 0 where
+  pub index : Index from to first next
+  pub turn : Turn (Back from to) m q at n
 
--- the seeds below p are marked and queued, and nothing else
-pub record Gathered (seeds m q : List ℕ) (p n : ℕ) : Type 0 where
-  pub work : (from to : List ℕ) → Work from to m q 0 n
-  pub given : (j : ℕ) → getD m j 0 ≡ 1 → getD seeds j 0 ≡ 1
-  pub all : (j : ℕ) → j < p → getD seeds j 0 ≡ 1 → getD m j 0 ≡ 1
+-- ---- the seeds
+
+-- nothing is done yet: each marked node waits
+pub record Waiting (m q : List ℕ) (n : ℕ) : Type 0 where
+  pub queue : Queue m q n
+  pub waits : (p : ℕ) → getD m p 0 ≡ 1 → Waits q 0 n p
+
+-- marks that are 0 or 1, none set from `size` on
+pub record Seeded (m : List ℕ) (size : ℕ) : Type 0 where
+  pub few : size ≤ 1024
+  pub long : length m ≡ 1024
+  pub flags : (p : ℕ) → getD m p 0 ≤ 1
+  pub past : (p : ℕ) → size ≤ p → getD m p 0 ≡ 0
+
+-- node p goes to the end of the queue, if its mark is 1
+abbrev pub Lined : ℕ → ℕ → List ℕ → ℕ → List ℕ → ℕ → Type 0
+Lined x p q n q′ n′ = ((x ≡ 1) × (q′ ≡ set q n p) × (n′ ≡ n + 1)) ⊎ ((x ≡ 1 → ⊥) × (q′ ≡ q) × (n′ ≡ n))
+
+-- the marked nodes below p are queued, and nothing else
+pub record Gathered (m q : List ℕ) (p n : ℕ) : Type 0 where
+  pub marked : (j : ℕ) → j < n → getD m (getD q j 0) 0 ≡ 1
+  pub nodes : (j : ℕ) → j < n → getD q j 0 < 1024
+  pub waits : (j : ℕ) → j < p → getD m j 0 ≡ 1 → Waits q 0 n j
+  pub room : n ≤ count (take p m)
+  pub queue-long : length q ≡ 1024
+
+-- marks, and edges with their index
+pub record Closable (from to first next m : List ℕ) (size : ℕ) : Type 0 where
+  pub index : Index from to first next
+  pub seeded : Seeded m size

@@ -1,8 +1,8 @@
 // The closure: marks on nodes, and a queue in which each marked node stands once.
 ghost use mathlib.Core.Path.{_≡_};
-ghost use Rattle.edges.specs.Closure.{SeedsBelow, ClosedBack};
-ghost use Rattle.edges.specs.Uses.{Index};
-ghost use Rattle.edges.specs.Marks.{noMarks, Markable, Marked, Taken, Gathering, Gathered, Visit, Visited};
+ghost use Prim.Native.Nat.{_<_};
+ghost use Rattle.edges.specs.Closure.{Back, ClosedBack};
+ghost use Rattle.edges.specs.Marks.{noMarks, Markable, Marked, Seeded, Lined, Gathered, Visit, Visited, Closable};
 use super::wide;
 
 // No node is marked.
@@ -12,14 +12,14 @@ pub fn no_marks() -> [u8; 1024]
     [0; 1024]
 }
 
-fn no_queue() -> [u16; 1024]
+pub fn no_queue() -> [u16; 1024]
     ensures { λ r. ⌜ r ≡ noMarks ⌝ }
 {
     [0; 1024]
 }
 
 // Marks a node, and puts it at the end of the queue, if it was not marked. Answers how many the queue holds.
-fn mark(h: usize, marks: &mut [u8; 1024], queue: &mut [u16; 1024], n: usize) -> usize
+pub fn mark(h: usize, marks: &mut [u8; 1024], queue: &mut [u16; 1024], n: usize) -> usize
     requires { ⌜ Markable h (now marks) n ⌝ }
     ensures { λ r. ⌜ Marked h (now (marks .entry)) (now (queue .entry)) n (now (marks .exit)) (now (queue .exit)) r ⌝ }
 {
@@ -31,26 +31,27 @@ fn mark(h: usize, marks: &mut [u8; 1024], queue: &mut [u16; 1024], n: usize) -> 
     n + 1
 }
 
-// Marks node `p` if its seed is 1.
-fn take(seed: u8, p: usize, marks: &mut [u8; 1024], queue: &mut [u16; 1024], n: usize) -> usize
-    requires { ⌜ Markable p (now marks) n ⌝ }
-    ensures { λ r. ⌜ Taken seed p (now (marks .entry)) (now (queue .entry)) n (now (marks .exit)) (now (queue .exit)) r ⌝ }
+// Puts a node at the end of the queue, if its mark is 1.
+fn line_up(mark: u8, p: usize, queue: &mut [u16; 1024], n: usize) -> usize
+    requires { ⌜ (p < 1024) × (n < 1024) ⌝ }
+    ensures { λ r. ⌜ Lined mark p (now (queue .entry)) n (now (queue .exit)) r ⌝ }
 {
-    if seed == 1 {
-        return mark(p, marks, queue, n);
+    if mark == 1 {
+        queue[n] = p as u16;
+        return n + 1;
     }
     n
 }
 
-// Marks all seeds. They stand below `size`.
-fn gather(seeds: &[u8; 1024], size: usize, marks: &mut [u8; 1024], queue: &mut [u16; 1024]) -> usize
-    requires { ⌜ Gathering (now seeds) size (now marks) (now queue) ⌝ }
-    ensures { λ r. ⌜ Gathered (now (seeds .entry)) (now (marks .exit)) (now (queue .exit)) size r ⌝ }
+// Queues all marked nodes. They stand below `size`.
+fn gather(marks: &[u8; 1024], size: usize, queue: &mut [u16; 1024]) -> usize
+    requires { ⌜ Seeded (now marks) size × (now queue ≡ noMarks) ⌝ }
+    ensures { λ r. ⌜ Gathered (now (marks .entry)) (now (queue .exit)) size r ⌝ }
 {
     let mut n: usize = 0;
     let mut p: usize = 0;
     while p < size {
-        n = take(seeds[p], p, marks, queue, n);
+        n = line_up(marks[p], p, queue, n);
         p += 1;
     }
     n
@@ -61,14 +62,14 @@ fn visit(
     from: &[u16],
     to: &[u16],
     first: &[u16; 1024],
-    next: &[u16; 9216],
+    next: &[u16; 8192],
     marks: &mut [u8; 1024],
     queue: &mut [u16; 1024],
     at: usize,
     n: usize,
 ) -> usize
     requires { ⌜ Visit (now from) (now to) (now first) (now next) (now marks) (now queue) at n ⌝ }
-    ensures { λ r. ⌜ Visited (now (from .entry)) (now (to .entry)) (now (marks .entry)) (now (queue .entry)) at (now (marks .exit)) (now (queue .exit)) r ⌝ }
+    ensures { λ r. ⌜ Visited (Back (now (from .entry)) (now (to .entry))) (now (marks .entry)) at (now (marks .exit)) (now (queue .exit)) r ⌝ }
 {
     let p = wide(queue[at]);
     let mut out = n;
@@ -81,27 +82,25 @@ fn visit(
     out
 }
 
-// The seeds, which stand below `size`, and every node that depends on one. A node is queued when it is marked first: at most 1,024 turns, and each edge is
-// followed in at most one of them.
-pub fn dependents(
+// Marks, with the marked nodes, which stand below `size`, every node that depends on one. A node is queued when it is marked first: at most 1,024 turns,
+// and each edge is followed in at most one of them.
+pub fn close_back(
     from: &[u16],
     to: &[u16],
     first: &[u16; 1024],
-    next: &[u16; 9216],
-    seeds: &[u8; 1024],
+    next: &[u16; 8192],
+    marks: &mut [u8; 1024],
     size: usize,
-) -> [u8; 1024]
-    requires { ⌜ Index (now from) (now to) (now first) (now next) × SeedsBelow (now seeds) size ⌝ }
-    ensures { λ r. ⌜ ClosedBack (now (from .entry)) (now (to .entry)) (now (seeds .entry)) r ⌝ }
+)
+    requires { ⌜ Closable (now from) (now to) (now first) (now next) (now marks) size ⌝ }
+    ensures { λ _. ⌜ ClosedBack (now (from .entry)) (now (to .entry)) (now (marks .entry)) (now (marks .exit)) ⌝ }
 {
-    let mut marks = no_marks();
     let mut queue = no_queue();
-    let gathered = gather(seeds, size, &mut marks, &mut queue);
+    let gathered = gather(marks, size, &mut queue);
     let mut n = gathered;
     let mut at: usize = 0;
     while at < n {
-        n = visit(from, to, first, next, &mut marks, &mut queue, at, n);
+        n = visit(from, to, first, next, marks, &mut queue, at, n);
         at += 1;
     }
-    marks
 }

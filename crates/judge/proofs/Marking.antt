@@ -6,7 +6,7 @@ use mathlib.Core.List.{List}
 use Prim.Native.Nat.{ℕ, zero, suc, _+_, _≤_, _<_}
 use native.Mathlib.Nat.{not-suc-le-zero}
 use native.Mathlib.Omega.{arith}
-use native.Mathlib.Decide.{ℕ-discrete}
+use native.Mathlib.Decide.{ℕ-discrete, decLt}
 use lib.Dec.{T, eqb→eq}
 use lib.ListN.{length, getD, set, length-map, length-set, length-replicate}
 use lib.Seq.{getD-set-same, getD-set-other}
@@ -15,8 +15,8 @@ use Rattle.gdl.specs.Flags.{on, bit, blank}
 use Rattle.gdl.specs.Graph.{itself, Depends}
 use Rattle.gdl.proofs.Tests.{and-left, and-right, and-both, eq→eqb}
 use Rattle.edges.specs.Graph.{Drawn}
-use Rattle.edges.specs.Closure.{SeedsBelow, ClosedBack}
-use Rattle.edges.specs.Marks.{noMarks}
+use Rattle.edges.specs.Closure.{ClosedBack}
+use Rattle.edges.specs.Marks.{noMarks, Seeded}
 use Rattle.edges.proofs.Drawing.{clauses-drawn}
 use Rattle.edges.proofs.Depending.{OnSeed, closed-back}
 use Rattle.rules.specs.Rules.{oneOf, Leans}
@@ -94,8 +94,20 @@ module _ (kinds owners literals : List ℕ) (G : Game) (h : HeldEdges kinds owne
   pub held-drawn : Drawn itself (G .clauses) owners literals (length kinds)
   held-drawn = rw (h .owners-are, h .literals-are, kinds-many) (clauses-drawn (G .clauses) (length (G .atoms)) (h .limits .heads))
 
-pub seeds-below : (kinds owners literals those seeds : List ℕ) → EdgesShaped kinds owners literals → Sown kinds those (length kinds) seeds → SeedsBelow seeds (length kinds)
-seeds-below kinds owners literals those seeds a s = record { few = a .atoms; past = λ p le one. omega (arith, s .past p le) }
+pub sown-seeded : (kinds owners literals those seeds : List ℕ) → EdgesShaped kinds owners literals → Sown kinds those (length kinds) seeds → Seeded seeds (length kinds)
+sown-seeded kinds owners literals those seeds a s = record {
+  few = a .atoms;
+  long = s .long;
+  flags = λ p. elim (decLt p (length kinds)) [
+    | yes lt ↦ rw (s .at p lt) (small (oneOf those (getD kinds p 0)))
+    | no ge ↦ omega (arith, s .past p (omega arith))
+  ];
+  past = s .past;
+}
+  where
+    small : (b : Bool) → bit b ≤ 1
+    small true = omega arith
+    small false = omega arith
 
 pub seeds-marked : (kinds owners literals those seeds marks : List ℕ) → EdgesShaped kinds owners literals → Sown kinds those (length kinds) seeds → ClosedBack owners literals seeds marks
     → MarksOf (HeldEdges kinds owners literals) those marks
@@ -166,4 +178,4 @@ module _ (rule : DependenceRule) (kinds owners literals : List ℕ) where
       pub lean-tells : (b : Bool) → b ≡ (oneOf (theseOf rule) (getD kinds p 0) && on marks p) → Tested (HeldEdges kinds owners literals) (Leans (theseOf rule) (thoseOf rule)) p b
       lean-tells b e = record { tells = λ G h. told G h b (e ∙ ap (λ (k : ℕ). oneOf (theseOf rule) k && on marks p) (kind-is G h)) }
 
-pub ruleset leaning = (these-init, these-does, those-init, those-does, sown-start, sown-more, sown-all, mark-both, mark-none, seeds-below, seeds-marked, leaning-atom, asked-mark, lean-tells)
+pub ruleset leaning = (these-init, these-does, those-init, those-does, sown-start, sown-more, sown-all, mark-both, mark-none, sown-seeded, seeds-marked, leaning-atom, asked-mark, lean-tells)

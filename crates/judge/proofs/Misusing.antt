@@ -10,16 +10,17 @@ use lib.ListN.{length, getD}
 use borrow.Author.Tests.{lt-ltb, le-ltb}
 use borrow.Author.Count.{below-more}
 use Rattle.gdl.specs.Game.{Clause, Game, initKind, nextKind, seesKind, atomOf, clauseAt}
+use Rattle.gdl.specs.Graph.{itself}
 use Rattle.gdl.specs.Layout.{codeOf, ownersOf}
 use Rattle.gdl.proofs.Tests.{and-left, and-right, and-both}
 use Rattle.edges.specs.Graph.{Has, endOf}
 use Rattle.edges.proofs.Drawing.{clauses-drawn}
 use Rattle.rules.specs.Rules.{oneOf, BodyBroken}
-use Rattle.rules.proofs.Finding.{at-mem, mem-at}
+use Rattle.gdl.proofs.Layouts.{code-half, at-mem, mem-at}
 use Rattle.judge.specs.Answers.{Searched}
 use Rattle.judge.specs.Arrays.{HeldClauses, ClausesShaped, ClausesUsed, Misused, AnyMisused}
 use Rattle.judge.specs.declared.found.Found.the-variants.{Nowhere}
-use Rattle.judge.proofs.Holding.{clauses-held, kind-held, head-held, code-half}
+use Rattle.judge.proofs.Holding.{clauses-held, kind-held, head-held}
 
 abbrev bodyless : List ℕ
 bodyless = initKind ∷ nextKind ∷ seesKind ∷ []
@@ -87,7 +88,7 @@ module _ (kinds heads starts literals first : List ℕ) (a : ClausesUsed kinds h
           let s : Has (ownersOf (G .clauses)) literals (clauseAt G q .head) (codeOf (x .literal)) =
           subst (λ (y : List ℕ). Has (ownersOf (G .clauses)) y (clauseAt G q .head) (codeOf (x .literal))) (sym (h .literals-are))
           (clauses-drawn (G .clauses) (length kinds) (fit G h) .whole (clauseAt G q) (at-mem _ (G .clauses) q (x .clause)) (x .literal) (x .inBody)) in
-          let z : endOf literals (s .k) ≡ atomOf (x .literal) = ap (λ (y : ℕ). y / 2) (s .literal) ∙ code-half (x .literal) in
+          let z : endOf literals (s .k) ≡ atomOf (x .literal) = ap (λ (y : ℕ). y / 2) (s .literal) ∙ code-half itself (x .literal) in
           let w : atomOf (x .literal) < length kinds = omega (arith, a .shaped .body-atoms .atoms (s .k) (s .within), z) in
           record {
             atom = atomOf (x .literal);

@@ -7,11 +7,12 @@ use lib.ListN.{length, getD, length-map, length-append}
 use Rattle.gdl.specs.Game.{Clause, Game, clauseAt}
 use Rattle.gdl.specs.Layout.{startsFrom, literalsOf}
 use Rattle.edges.specs.Graph.{Graph}
+use Rattle.edges.specs.Closure.{Sized}
 use Rattle.edges.specs.Uses.{noUses, noNexts, Unindexed, Indexed}
 use Rattle.edges.proofs.Drawing.{clauses-graph, graph-sized}
-use Rattle.judge.specs.Arrays.{HeldClauses, ClausesShaped, ClausesUsed, RolesShaped, HeldEdges, EdgesShaped, EdgesIndexed}
+use Rattle.judge.specs.Arrays.{HeldClauses, ClausesShaped, RolesShaped, HeldEdges, EdgesShaped, EdgesIndexed}
 use Rattle.judge.specs.Judgement.{Held, HoldsGame, HeldUses, UsesAsked, HeldLast, LastAsked}
-use Rattle.rules.proofs.Finding.{at-mem}
+use Rattle.gdl.proofs.Layouts.{at-mem}
 use Rattle.judge.proofs.Holding.{clauses-held, head-held, end-held}
 
 starts-many : (k : ℕ) (cs : List Clause) → length (startsFrom k cs) ≡ suc (length cs)
@@ -72,29 +73,25 @@ module _ (kinds firsts heads starts literals owners : List ℕ) (seats : ℕ) (s
   pub clauses-shaped : ClausesShaped kinds heads starts literals
   clauses-shaped = clauses-shape (s .held)
 
-  pub uses-asked : UsesAsked kinds heads starts literals owners
-  uses-asked = record { clauses = clauses-shape (s .held); edges = edges-shape (s .held) }
+  edges : EdgesShaped kinds owners literals
+  edges = edges-shape (s .held)
 
-  pub last-asked : LastAsked kinds firsts heads owners literals
-  last-asked = record { edges = edges-shape (s .held); roles = roles-shape (s .held) }
+  sized : Sized owners literals
+  sized = graph-sized (edges .graph) (edges .atoms) (omega (arith, edges .few))
 
-pub ruleset shapes = (clauses-shaped, uses-asked, last-asked)
+  -- the index of the uses, before it is made and after
+  module _ (first next : List ℕ) where
+    pub uses-unindexed : first ≡ noUses → next ≡ noNexts → Unindexed literals first next
+    uses-unindexed f n = record { ends = record { nodes = sized .graph .ends; edges = sized .edges }; no-firsts = f; no-nexts = n }
 
--- ---- the index of the uses, before it is made and after
+    module _ (i : Indexed literals first next) where
+      edges-indexed : EdgesIndexed kinds owners literals first next
+      edges-indexed = record { shaped = edges; index = record { sized = sized; chained = i .chained } }
 
-module _ (kinds heads starts literals owners first next : List ℕ) (a : UsesAsked kinds heads starts literals owners) where
-  pub uses-unindexed : first ≡ noUses → next ≡ noNexts → Unindexed literals first next
-  uses-unindexed f n = record {
-    ends = record { nodes = λ k lt. omega (arith, a .edges .graph .ends k lt, a .edges .atoms); edges = omega (arith, a .edges .few) };
-    no-firsts = f;
-    no-nexts = n;
-  }
+      pub uses-asked : UsesAsked kinds heads starts literals owners first next
+      uses-asked = record { clauses = record { shaped = clauses-shaped; atoms = edges .atoms; firsts = i .chained .firsts }; edges = edges-indexed }
 
-  module _ (i : Indexed literals first next) where
-    pub clauses-used : ClausesUsed kinds heads starts literals first
-    clauses-used = record { shaped = a .clauses; atoms = a .edges .atoms; firsts = i .chained .firsts }
+      pub last-asked : LastAsked kinds firsts heads owners literals first next
+      last-asked = record { edges = edges-indexed; roles = roles-shape (s .held) }
 
-    pub edges-indexed : EdgesIndexed kinds owners literals first next
-    edges-indexed = record { shaped = a .edges; index = record { sized = graph-sized (a .edges .graph) (a .edges .atoms) (omega (arith, a .edges .few)); chained = i .chained } }
-
-pub ruleset indexing = (uses-unindexed, clauses-used, edges-indexed)
+pub ruleset shapes = (clauses-shaped, uses-unindexed, uses-asked, last-asked)

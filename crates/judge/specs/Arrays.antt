@@ -11,7 +11,7 @@ use Rattle.gdl.specs.Layout.{kindsOf, firstsOf, headsOf, startsFrom, literalsOf
 use Rattle.gdl.specs.Flags.{on, bit}
 use Rattle.gdl.specs.Graph.{itself, Depends}
 use Rattle.edges.specs.Graph.{Graph}
-use Rattle.edges.specs.Uses.{FirstUse, Index}
+use Rattle.edges.specs.Uses.{FirstEnd, Index}
 use Rattle.rules.specs.Rules.{oneOf, RoleBroken, HeadBroken, BodyBroken}
 use Rattle.rules.specs.Limits.{Limits}
 use Rattle.judge.specs.Answers.{Tells}
@@ -66,7 +66,7 @@ pub record BodyAsked (kinds starts literals : List ℕ) (i : ℕ) : Type 0 where
 pub record ClausesUsed (kinds heads starts literals first : List ℕ) : Type 0 where
   pub shaped : ClausesShaped kinds heads starts literals
   pub atoms : length kinds ≤ 1024
-  pub firsts : (a : ℕ) → a < 1024 → FirstUse literals a 0 (getD first a 0)
+  pub firsts : (a : ℕ) → a < 1024 → FirstEnd literals a 0 (getD first a 0)
 
 -- an atom that never stands in a body has a use among so many literals
 pub record Misused (kinds first : List ℕ) (many : ℕ) : Type 0 where

@@ -19,7 +19,7 @@ use Rattle.levels.specs.declared.Numbering.the-variants.{Allowed, Refused}
 use Rattle.rules.specs.Verdict.{Verdict, unfit, fit}
 use Rattle.rules.specs.Rules.{RoleBroken, HeadBroken, BodyBroken, InitBroken, DoesBroken, LevelsBroken, RoleMissing, Lowest, rule_refuses_else_}
 use Rattle.rules.specs.Limits.{Limits}
-use Rattle.judge.specs.Arrays.{HeldClauses, HeldEdges, HeldRoles, ClausesShaped, EdgesShaped, RolesShaped}
+use Rattle.judge.specs.Arrays.{HeldClauses, HeldEdges, HeldRoles, ClausesUsed, EdgesIndexed, RolesShaped}
 use Rattle.judge.specs.declared.Judgement.{Judgement}
 
 -- ---- rules in a row
@@ -104,15 +104,17 @@ pub record HeldUses (kinds heads starts literals owners : List ℕ) (G : Game) :
   pub clauses : HeldClauses kinds heads starts literals G
   pub edges : HeldEdges kinds owners literals G
 
-pub record UsesAsked (kinds heads starts literals owners : List ℕ) : Type 0 where
-  pub clauses : ClausesShaped kinds heads starts literals
-  pub edges : EdgesShaped kinds owners literals
+-- their shape, with the index of the uses
+pub record UsesAsked (kinds heads starts literals owners first next : List ℕ) : Type 0 where
+  pub clauses : ClausesUsed kinds heads starts literals first
+  pub edges : EdgesIndexed kinds owners literals first next
 
 -- the arrays of 11 and 12
 pub record HeldLast (kinds firsts heads owners literals : List ℕ) (seats : ℕ) (G : Game) : Type 0 where
   pub edges : HeldEdges kinds owners literals G
   pub roles : HeldRoles kinds firsts heads seats G
 
-pub record LastAsked (kinds firsts heads owners literals : List ℕ) : Type 0 where
-  pub edges : EdgesShaped kinds owners literals
+-- their shape, with the same index
+pub record LastAsked (kinds firsts heads owners literals first next : List ℕ) : Type 0 where
+  pub edges : EdgesIndexed kinds owners literals first next
   pub roles : RolesShaped kinds firsts heads

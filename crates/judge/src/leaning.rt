@@ -4,6 +4,7 @@ ghost use mathlib.Core.Bool.{_&&_};
 ghost use Prim.Native.Nat.{_≤_};
 ghost use lib.ListN.{length, getD};
 ghost use Rattle.gdl.specs.Flags.{on, bit};
+ghost use Rattle.edges.specs.Marks.{noMarks};
 ghost use Rattle.rules.specs.Rules.{oneOf, Leans};
 ghost use Rattle.judge.specs.Answers.{Searched};
 ghost use Rattle.judge.specs.Arrays.{theseOf, thoseOf, Sown, HeldEdges, EdgesIndexed, MarksOf, MarkAsked};
@@ -51,34 +52,33 @@ fn flag(b: bool) -> u8
     0
 }
 
-// A seed for each atom of one of those kinds.
-fn seeds_of(rule: DependenceRule, kinds: &[u16]) -> [u8; 1024]
-    requires { ⌜ length (now kinds) ≤ 1024 ⌝ }
-    ensures { λ r. ⌜ Sown (now (kinds .entry)) (thoseOf rule) (length (now (kinds .entry))) r ⌝ }
+// Marks each atom of one of those kinds.
+fn sow(rule: DependenceRule, kinds: &[u16], marks: &mut [u8; 1024])
+    requires { ⌜ (length (now kinds) ≤ 1024) × (now marks ≡ noMarks) ⌝ }
+    ensures { λ _. ⌜ Sown (now (kinds .entry)) (thoseOf rule) (length (now (kinds .entry))) (now (marks .exit)) ⌝ }
 {
-    let mut seeds = edges::marks::no_marks();
     let mut p = 0;
     while p < kinds.len() {
-        seeds[p] = flag(of_those(rule, kinds[p]));
+        marks[p] = flag(of_those(rule, kinds[p]));
         p += 1;
     }
-    seeds
 }
 
-// A mark for each atom that is of one of those kinds or depends on one.
-fn marks_of(
+// Marks each atom that is of one of those kinds or depends on one.
+fn mark_resting(
     rule: DependenceRule,
     kinds: &[u16],
     owners: &[u16],
     literals: &[u16],
     first: &[u16; 1024],
-    next: &[u16; 9216],
-) -> [u8; 1024]
-    requires { ⌜ EdgesIndexed (now kinds) (now owners) (now literals) (now first) (now next) ⌝ }
-    ensures { λ r. ⌜ MarksOf (HeldEdges (now (kinds .entry)) (now (owners .entry)) (now (literals .entry))) (thoseOf rule) r ⌝ }
+    next: &[u16; 8192],
+    marks: &mut [u8; 1024],
+)
+    requires { ⌜ EdgesIndexed (now kinds) (now owners) (now literals) (now first) (now next) × (now marks ≡ noMarks) ⌝ }
+    ensures { λ _. ⌜ MarksOf (HeldEdges (now (kinds .entry)) (now (owners .entry)) (now (literals .entry))) (thoseOf rule) (now (marks .exit)) ⌝ }
 {
-    let seeds = seeds_of(rule, kinds);
-    edges::marks::dependents(owners, literals, first, next, &seeds, kinds.len())
+    sow(rule, kinds, marks);
+    edges::marks::close_back(owners, literals, first, next, marks, kinds.len());
 }
 
 // Whether atom p is marked and of one of these kinds.
@@ -99,12 +99,13 @@ pub(super) fn lowest_leaning(
     owners: &[u16],
     literals: &[u16],
     first: &[u16; 1024],
-    next: &[u16; 9216],
+    next: &[u16; 8192],
 ) -> Found
     requires { ⌜ EdgesIndexed (now kinds) (now owners) (now literals) (now first) (now next) ⌝ }
     ensures { λ r. ⌜ Searched (HeldEdges (now (kinds .entry)) (now (owners .entry)) (now (literals .entry))) (Leans (theseOf rule) (thoseOf rule)) r ⌝ }
 {
-    let marks = marks_of(rule, kinds, owners, literals, first, next);
+    let mut marks = edges::marks::no_marks();
+    mark_resting(rule, kinds, owners, literals, first, next, &mut marks);
     let mut p = 0;
     while p < kinds.len() {
         if marked(rule, kinds, &marks, p) {

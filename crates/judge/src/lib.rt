@@ -2,7 +2,7 @@
 ghost use mathlib.Core.Path.{_≡_};
 ghost use Rattle.gdl.specs.Flags.{blank};
 ghost use Rattle.rules.specs.Rules.{Ruled};
-ghost use Rattle.judge.specs.Arrays.{HeldClauses, HeldEdges, ClausesShaped, EdgesShaped};
+ghost use Rattle.judge.specs.Arrays.{HeldClauses, HeldEdges, ClausesShaped, EdgesIndexed};
 ghost use Rattle.judge.specs.Judgement.{headRules, useRules, lastRules, RuledIn, Answers, Held, HoldsGame, LevelsOf, Judges, UsesAsked, HeldUses, LastAsked, HeldLast, refusedBy};
 
 mod clauses; // 6, 7 and 8
@@ -49,29 +49,28 @@ fn judge_heads(kinds: &[u16], heads: &[u16], starts: &[u16], literals: &[u16]) -
     }
 }
 
-// 8, 9 and 10, over one index of the uses.
+// 8, 9 and 10, over the index of the uses.
 fn judge_uses(
     kinds: &[u16],
     heads: &[u16],
     starts: &[u16],
     literals: &[u16],
     owners: &[u16],
+    first: &[u16; 1024],
+    next: &[u16; 8192],
 ) -> Refusal
-    requires { ⌜ UsesAsked (now kinds) (now heads) (now starts) (now literals) (now owners) ⌝ }
+    requires { ⌜ UsesAsked (now kinds) (now heads) (now starts) (now literals) (now owners) (now first) (now next) ⌝ }
     ensures { λ r. ⌜ Answers (HeldUses (now (kinds .entry)) (now (heads .entry)) (now (starts .entry)) (now (literals .entry)) (now (owners .entry))) useRules r ⌝ }
 {
-    let mut first = edges::uses::no_uses();
-    let mut next = edges::uses::no_nexts();
-    edges::uses::index_uses(literals, &mut first, &mut next);
-    match lowest_misusing(kinds, heads, starts, literals, &first) {
+    match lowest_misusing(kinds, heads, starts, literals, first) {
         Found::At(i) => return Refusal::NeverInBody(i),
         Found::Nowhere => {}
     }
-    match lowest_leaning(DependenceRule::Init, kinds, owners, literals, &first, &next) {
+    match lowest_leaning(DependenceRule::Init, kinds, owners, literals, first, next) {
         Found::At(p) => return Refusal::InitRule(p),
         Found::Nowhere => {}
     }
-    match lowest_leaning(DependenceRule::Does, kinds, owners, literals, &first, &next) {
+    match lowest_leaning(DependenceRule::Does, kinds, owners, literals, first, next) {
         Found::At(p) => Refusal::DoesRule(p),
         Found::Nowhere => Refusal::Success,
     }
@@ -90,12 +89,19 @@ fn refused(refusal: Refusal) -> Judgement
 }
 
 // 11: the levels in 1,024 places, or the place.
-fn number_atoms(kinds: &[u16], owners: &[u16], literals: &[u16], levels: &mut [u16]) -> Numbering
-    requires { ⌜ EdgesShaped (now kinds) (now owners) (now literals) × (now levels ≡ blank 1024) ⌝ }
+fn number_atoms(
+    kinds: &[u16],
+    owners: &[u16],
+    literals: &[u16],
+    first: &[u16; 1024],
+    next: &[u16; 8192],
+    levels: &mut [u16],
+) -> Numbering
+    requires { ⌜ EdgesIndexed (now kinds) (now owners) (now literals) (now first) (now next) × (now levels ≡ blank 1024) ⌝ }
     ensures { λ r. ⌜ LevelsOf (HeldEdges (now (kinds .entry)) (now (owners .entry)) (now (literals .entry))) r (now (levels .exit)) ⌝ }
 {
     let n = kinds.len();
-    levels::number_levels(owners, literals, &mut levels[0..n])
+    levels::number_levels(owners, literals, first, next, &mut levels[0..n])
 }
 
 // 11 and 12, and the levels.
@@ -105,13 +111,15 @@ fn judge_last(
     heads: &[u16],
     owners: &[u16],
     literals: &[u16],
+    first: &[u16; 1024],
+    next: &[u16; 8192],
     seats: usize,
     levels: &mut [u16; 1024],
 ) -> Judgement
-    requires { ⌜ LastAsked (now kinds) (now firsts) (now heads) (now owners) (now literals) × (now levels ≡ blank 1024) ⌝ }
+    requires { ⌜ LastAsked (now kinds) (now firsts) (now heads) (now owners) (now literals) (now first) (now next) × (now levels ≡ blank 1024) ⌝ }
     ensures { λ j. ⌜ Judges (HeldLast (now (kinds .entry)) (now (firsts .entry)) (now (heads .entry)) (now (owners .entry)) (now (literals .entry)) seats) (RuledIn lastRules) j (now (levels .exit)) ⌝ }
 {
-    match number_atoms(kinds, owners, literals, levels) {
+    match number_atoms(kinds, owners, literals, first, next, levels) {
         Numbering::Refused(p) => refused(Refusal::NoLevels(p)),
         Numbering::Allowed(top) => match lowest_seat(kinds, firsts, heads, seats) {
             Found::At(s) => {
@@ -144,9 +152,23 @@ pub fn judge_arrays(
     if number_of(by_heads) != 0 {
         return refused(by_heads);
     }
-    let by_uses = judge_uses(kinds, heads, starts, literals, owners);
+    // The index of the uses, made once and lent from here on. An array that a function answers would be copied.
+    let mut first = [8192; 1024];
+    let mut next = [8192; 8192];
+    edges::uses::index_uses(literals, &mut first, &mut next);
+    let by_uses = judge_uses(kinds, heads, starts, literals, owners, &first, &next);
     if number_of(by_uses) != 0 {
         return refused(by_uses);
     }
-    judge_last(kinds, firsts, heads, owners, literals, seats, levels)
+    judge_last(
+        kinds,
+        firsts,
+        heads,
+        owners,
+        literals,
+        &first,
+        &next,
+        seats,
+        levels,
+    )
 }

@@ -37,8 +37,8 @@ same-flags r s e a b f g = ext-getD 0 r s e (λ p lt. at p)
 pub reached-unique : {G : Game} {seat : ℕ} {r s : List ℕ} → Reached G seat r → Reached G seat s → r ≡ s
 reached-unique {r = r} {s = s} a b = same-flags r s (a .long ∙ sym (b .long)) (a .bits) (b .bits) (a .reach .least (on s) (b .reach .reaches)) (b .reach .least (on r) (a .reach .reaches))
 
-pub reach-of-determined : {kinds firsts literals owners : List ℕ} → Ready kinds firsts literals owners → (seat : ℕ) (r s : List ℕ)
-    → ((G : Game) → Laid G kinds firsts literals owners → Reached G seat r) → ((G : Game) → Laid G kinds firsts literals owners → Reached G seat s) → r ≡ s
+pub reach-of-determined : {kinds firsts heads starts literals : List ℕ} → Ready kinds firsts heads starts literals → (seat : ℕ) (r s : List ℕ)
+    → ((G : Game) → Laid G kinds firsts heads starts literals → Reached G seat r) → ((G : Game) → Laid G kinds firsts heads starts literals → Reached G seat s) → r ≡ s
 reach-of-determined w seat r s a b = reached-unique (a (w .game) (w .laid)) (b (w .game) (w .laid))
 
 -- ---- the computed reach

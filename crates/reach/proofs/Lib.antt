@@ -1,6 +1,6 @@
 pub mod Seeding
-pub mod Entering
-pub mod Linking
 pub mod Laying
+pub mod Indexing
+pub mod Bringing
 pub mod Reached
 pub mod Determined

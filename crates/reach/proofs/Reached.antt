@@ -1,82 +1,88 @@
--- The promise of the reach: the closure over the links of a game, from its seeds, keeps it, for every game that the arrays hold.
-use mathlib.Core.Path.{_≡_, refl, sym, ap, subst, _∙_}
+-- The promise of the reach: the closure from the seeds of a game keeps it, for every game that the arrays hold.
+use mathlib.Core.Path.{_≡_, refl, sym, subst}
 use mathlib.Core.Bool.{Bool, true, false}
 use mathlib.Core.List.{List}
-use Prim.Native.Nat.{ℕ, _-_, _/_, _<_, _≤_}
-use native.Mathlib.Nat.{sub-zero}
+use Prim.Native.Nat.{ℕ, _<_, _≤_}
 use native.Mathlib.Omega.{arith}
 use native.Mathlib.Decide.{decLt}
 use lib.Dec.{T, eqb, eqb→eq, ltb, ltb→lt, lt→ltb}
-use lib.ListN.{length, getD, take}
-use lib.Seq.{length-take-le, getD-take}
-use Rattle.gdl.specs.Game.{Game, atomAt}
-use Rattle.gdl.specs.Sets.{Atoms, _⊆_}
+use lib.ListN.{length, getD}
+use Rattle.gdl.specs.Game.{Game, atomOf, atomAt}
+use Rattle.gdl.specs.Sets.{Atoms}
 use Rattle.gdl.specs.Reach.{isSeed, Reaches}
 use Rattle.gdl.specs.Flags.{on, bit}
 use Rattle.gdl.proofs.Tests.{eq→eqb}
 use Rattle.gdl.proofs.Linking.{Leads, toBody, toNext}
-use Rattle.edges.specs.Graph.{startOf, endOf}
-use Rattle.edges.specs.Closure.{SeedsBelow, Seeded, ClosedBack}
+use Rattle.edges.specs.Closure.{Shut, Closes}
+use Rattle.edges.specs.Marks.{noMarks, Turn, Brought, Visited}
+use Rattle.edges.proofs.Marking.{joined-more, joined-as}
+use Rattle.edges.proofs.Closing.{turns, turn-done, Closing, closings, closing-starts}
 use Rattle.reach.specs.Promise.{Laid, Ready, Reached}
-use Rattle.reach.specs.Seeds.{Seeds}
-use Rattle.reach.specs.Links.{byLiteral, byFluent, BringsIn, Link, Linked, Readable}
+use Rattle.reach.specs.Seeds.{Unsown, Sown}
+use Rattle.reach.specs.Bodies as B
+use Rattle.reach.specs.Onward as O
+use Rattle.reach.specs.Steps.{byBody, byFluent, Brings, Readable, Visit, Following}
 use Rattle.reach.proofs.Laying.{laid-long, laid-kind, laid-first, leads-brings, brings-leads, ready-columns, ready-readable}
 
--- ---- the closure over the links
+-- ---- the turn of an atom
 
-module _ {kinds firsts literals owners : List ℕ} (s : Readable kinds firsts literals owners) {from to : List ℕ} {n : ℕ}
-    (l : Linked kinds firsts literals owners (length literals) (length kinds) from to n) where
-  many : n ≤ 9216
-  many = omega (arith, l .few, s .few, s .fluents .columns .few)
+module _ (kinds firsts heads starts literals first next fluents later m q : List ℕ) (at n : ℕ) (v : Visit kinds firsts heads starts literals first next fluents later m q at n) where
+  pub visit-turn : Turn (Brings kinds firsts heads starts literals) m q at n
+  visit-turn = v .turn
 
-  from-count : length (take n from) ≡ n
-  from-count = length-take-le n from (omega (arith, many, l .from-long))
+  module _ (p : ℕ) (ep : p ≡ getD q at 0) where
+    pub visit-onward : O.OnwardAsked kinds firsts fluents later p m q n
+    visit-onward = record { lows = v .index .readable .lows; index = v .index .atoms; atom = omega (arith, v .atom); queue = v .turn .work .queue }
 
-  to-count : length (take n to) ≡ n
-  to-count = length-take-le n to (omega (arith, many, l .to-long))
+    module _ (m′ q′ : List ℕ) (n′ : ℕ) (o : Brought (O.Follows kinds firsts p) m q n m′ q′ n′) where
+      pub visit-bodies : B.BodiesAsked heads starts literals first next p m′ q′ n′
+      visit-bodies = record {
+        clauses = v .index .readable .clauses;
+        index = v .index .clauses;
+        atom = omega (arith, v .atom, v .index .readable .lows .columns .few);
+        queue = o .joined .queue;
+      }
 
-  start-at : (e : ℕ) → e < n → startOf (take n from) e ≡ startOf from e
-  start-at e lt = getD-take n from e 0 lt
+      pub visit-done : (m″ q″ : List ℕ) (n″ : ℕ) → Brought (B.InBodies heads starts literals p) m′ q′ n′ m″ q″ n″ → Visited (Brings kinds firsts heads starts literals) m at m″ q″ n″
+      visit-done m″ q″ n″ b = turn-done (Brings kinds firsts heads starts literals) m q at n (v .turn) p ep m″ q″ n″ (record {
+        joined = joined-more (joined-as (λ h x. byFluent x) (o .joined)) (joined-as (λ h x. byBody x) (b .joined));
+        all = all;
+      })
+        where
+          all : (h : ℕ) → Brings kinds firsts heads starts literals p h → getD m″ h 0 ≡ 1
+          all h (byBody x) = b .all h x
+          all h (byFluent x) = b .joined .keeps h (o .all h x)
 
-  end-at : (e : ℕ) → e < n → endOf (take n to) e ≡ endOf to e
-  end-at e lt = ap (λ (x : ℕ). x / 2) (getD-take n to e 0 lt)
+pub ruleset visits = (turns, visit-turn, visit-onward, visit-bodies, visit-done)
 
-  brings-atom : {p q : ℕ} → BringsIn kinds firsts literals owners p q → (p < length kinds) × (q < length kinds)
-  brings-atom (byLiteral i lt) = (s .graph .starts i lt, s .graph .ends i lt)
-  brings-atom (byFluent p q lt f) = (f .trueAt .within, lt)
+-- ---- one turn after another
 
-  links-seeded : (seeds : List ℕ) (size : ℕ) → SeedsBelow seeds size → Seeded (take n from) (take n to) seeds size
-  links-seeded seeds size below = record {
-    sized = record {
-      graph = record {
-        same = from-count ∙ sym to-count;
-        starts = λ e lt. let h : e < n = omega (arith, to-count) in omega (arith, start-at e h, brings-atom (l .sound e h) .1, s .fluents .columns .few);
-        ends = λ e lt. let h : e < n = omega (arith, to-count) in omega (arith, end-at e h, brings-atom (l .sound e h) .0, s .fluents .columns .few);
-      };
-      edges = omega (arith, many, to-count);
-    };
-    below = below;
+brings-atom : {kinds firsts heads starts literals : List ℕ} → Readable kinds firsts heads starts literals → {p h : ℕ} → Brings kinds firsts heads starts literals p h → h < length kinds
+brings-atom s (byBody x) = omega (arith, x .inBody .isAtom, s .atoms (x .inBody .place) (omega (arith, x .inBody .to, s .clauses .ends (x .clause) (x .within))))
+brings-atom s (byFluent x) = x .within
+
+atoms-shut : {kinds firsts heads starts literals : List ℕ} → Readable kinds firsts heads starts literals → Shut (Brings kinds firsts heads starts literals) (λ p. ltb p (length kinds))
+atoms-shut {kinds} s = record { at = λ p h b t. lt→ltb h (length kinds) (brings-atom s b) }
+
+module _ (kinds firsts heads starts literals first next fluents later m₀ q₀ : List ℕ) (n₀ : ℕ) (f : Following kinds firsts heads starts literals first next fluents later m₀ q₀ n₀) where
+  pub follow-starts : Closing (Brings kinds firsts heads starts literals) m₀ m₀ q₀ 0 n₀
+  follow-starts = closing-starts (Brings kinds firsts heads starts literals) m₀ q₀ n₀ (f .waiting)
+
+  pub follow-visit : (m q : List ℕ) (at n : ℕ) → Closing (Brings kinds firsts heads starts literals) m₀ m q at n → at < n → Visit kinds firsts heads starts literals first next fluents later m q at n
+  follow-visit m q at n i lt = record {
+    index = f .index;
+    turn = record { work = i .work; waits = lt };
+    atom = ltb→lt (getD q at 0) (length kinds)
+        (i .grew .least (λ p. ltb p (length kinds)) (atoms-shut (f .index .readable)) (λ p e. lt→ltb p (length kinds) (let no : length kinds ≤ p → ⊥ = λ ge. omega (arith, f .after p ge) in omega arith))
+        (getD q at 0) (i .work .queue .marked at lt));
   }
 
-  module _ {seeds r : List ℕ} (x : ClosedBack (take n from) (take n to) seeds r) where
-    closed-step : {p q : ℕ} → BringsIn kinds firsts literals owners p q → T (on r p) → T (on r q)
-    closed-step {p} {q} b t =
-        let w : Link from to n p q = l .whole p q b in
-        let e : ℕ = w .edge in
-        subst (λ (y : ℕ). T (on r y)) (start-at e (w .within) ∙ w .start)
-        (x .least .shut .at e (omega (arith, w .within, to-count)) (subst (λ (y : ℕ). T (on r y)) (sym (end-at e (w .within) ∙ w .end)) t))
-
-    closed-least : (Y : Atoms) → on seeds ⊆ Y → ((p q : ℕ) → BringsIn kinds firsts literals owners p q → T (Y p) → T (Y q)) → on r ⊆ Y
-    closed-least Y f g = x .least .least Y f (record {
-      at = λ e lt t.
-          let h : e < n = omega (arith, to-count) in
-          subst (λ (y : ℕ). T (Y y)) (sym (start-at e h)) (g (endOf to e) (startOf from e) (l .sound e h) (subst (λ (y : ℕ). T (Y y)) (end-at e h) t));
-    })
+pub ruleset followings = (closings, follow-starts, follow-visit)
 
 -- ---- the seeds
 
-module _ {G : Game} {kinds firsts literals owners : List ℕ} (laid : Laid G kinds firsts literals owners) {seat : ℕ} {seeds : List ℕ}
-    (f : Seeds kinds firsts seat (length kinds) seeds) where
+module _ {G : Game} {kinds firsts heads starts literals : List ℕ} (laid : Laid G kinds firsts heads starts literals) {seat : ℕ} {seeds q : List ℕ} {n : ℕ}
+    (f : Sown kinds firsts seat (length kinds) seeds q n) where
   flag-on : (p : ℕ) → p < length (G .atoms) → on seeds p ≡ isSeed seat (atomAt G p)
   flag-on p lt = rw (f .below p (omega (arith, laid-long laid)), laid-kind laid p, laid-first laid p) (back (isSeed seat (atomAt G p)))
     where
@@ -93,52 +99,48 @@ module _ {G : Game} {kinds firsts literals owners : List ℕ} (laid : Laid G kin
     | no ge ↦ absurd (omega (arith, eqb→eq (getD seeds p 0) 1 t, f .after p (omega (arith, laid-long laid))))
   ]
 
--- ---- the promise; `n - 0` is how many places a part has that starts at 0
+-- ---- the promise
 
-module _ (kinds firsts literals owners : List ℕ) (w : Ready kinds firsts literals owners) (from to : List ℕ) (n : ℕ)
-    (l : Linked kinds firsts literals owners (length literals) (length kinds) from to n) where
-  pub reach-from : n ≤ length from
-  reach-from = omega (arith, many (ready-readable kinds firsts literals owners w) l, l .from-long)
+module _ (kinds firsts heads starts literals : List ℕ) (w : Ready kinds firsts heads starts literals) where
+  pub reach-unsown : (m q : List ℕ) → m ≡ noMarks → q ≡ noMarks → Unsown kinds firsts m q
+  reach-unsown m q em eq = record { columns = ready-columns kinds firsts heads starts literals w; unmarked = em; unqueued = eq }
 
-  pub reach-to : n ≤ length to
-  reach-to = omega (arith, many (ready-readable kinds firsts literals owners w) l, l .to-long)
+  pub reach-heads : (first next : List ℕ) → first ≡ B.noClauses → next ≡ B.noMoreClauses → B.Unindexed heads first next
+  reach-heads first next ef en = record { isHeads = ready-readable kinds firsts heads starts literals w .clauses .isHeads; no-clauses = ef; no-more = en }
 
-  module _ (seat : ℕ) (seeds : List ℕ) (f : Seeds kinds firsts seat (length kinds) seeds) where
-    pub reach-seeded : Seeded (take (n - 0) from) (take (n - 0) to) seeds (length kinds)
-    reach-seeded = rw sub-zero (links-seeded (ready-readable kinds firsts literals owners w) l seeds (length kinds) (record { few = ready-readable kinds firsts literals owners w .fluents .columns .few; past = λ p le one. omega (arith, f .after p le) }))
+  pub reach-atoms : (fluents later : List ℕ) → fluents ≡ O.noAtoms → later ≡ O.noMoreAtoms → O.Unindexed kinds firsts fluents later
+  reach-atoms fluents later ef el = record { columns = ready-columns kinds firsts heads starts literals w; no-atoms = ef; no-more = el }
 
-    pub reach-reached : (r : List ℕ) → ClosedBack (take (n - 0) from) (take (n - 0) to) seeds r → (G : Game) → Laid G kinds firsts literals owners → Reached G seat r
-    reach-reached r x₀ G laid = record {
+  module _ (seat : ℕ) (seeds q : List ℕ) (n : ℕ) (f : Sown kinds firsts seat (length kinds) seeds q n) where
+    pub reach-following : (first next fluents later : List ℕ) → B.Indexed heads first next → O.Indexed kinds firsts fluents later → Following kinds firsts heads starts literals first next fluents later seeds q n
+    reach-following first next fluents later c a = record {
+      index = record { readable = ready-readable kinds firsts heads starts literals w; clauses = c; atoms = a };
+      waiting = f .waiting;
+      after = f .after;
+    }
+
+    pub reach-reached : (r : List ℕ) → Closes (Brings kinds firsts heads starts literals) seeds r → (G : Game) → Laid G kinds firsts heads starts literals → Reached G seat r
+    reach-reached r x G laid = record {
       reach = record {
         reaches = record {
           seeds = λ p lt t. x .least .holds p (seed-on laid f p lt t);
-          shut = record { body = λ c m t y k. step (toBody c m y k) t };
-          onward = λ z p q pl ql t u. step (toNext z pl ql t u);
+          shut = record { body = λ c m t y k. x .least .shut .at (c .head) (atomOf y) (leads-brings laid (toBody c m y k)) t };
+          onward = λ z p q pl ql t u. x .least .shut .at p q (leads-brings laid (toNext z pl ql t u));
         };
-        least = λ Y y. closed-least s l x Y (λ p t. let (lt, u) = on-seed laid f p t in y .seeds p lt u) (λ p q b. follow Y y (brings-leads laid b));
+        least = λ Y y. x .least .least Y (λ p t. let (lt, u) = on-seed laid f p t in y .seeds p lt u) (record { at = λ p q b. follow Y y (brings-leads laid b) });
       };
       long = x .long;
       bits = x .flags;
       after = λ p le.
-          let no : getD r p 0 ≡ 1 → ⊥ = λ e. omega (arith, ltb→lt p (length (G .atoms)) (inside p (eq→eqb (getD r p 0) 1 e))) in
+          let no : getD r p 0 ≡ 1 → ⊥ = λ e. omega (arith, ltb→lt p (length kinds) (inside p (eq→eqb (getD r p 0) 1 e)), laid-long laid) in
           omega (arith, x .flags p);
     }
       where
-        s : Readable kinds firsts literals owners
-        s = ready-readable kinds firsts literals owners w
-
-        x : ClosedBack (take n from) (take n to) seeds r
-        x = rw sub-zero at x₀
-
-        step : {p q : ℕ} → Leads G p q → T (on r p) → T (on r q)
-        step a t = closed-step s l x (leads-brings laid a) t
-
         follow : (Y : Atoms) → Reaches G seat Y → {p q : ℕ} → Leads G p q → T (Y p) → T (Y q)
         follow Y y (toBody c m z k) t = y .shut .body c m t z k
         follow Y y {p} {q} (toNext z pl ql u v) t = y .onward z p q pl ql u v t
 
-        inside : (p : ℕ) → T (on r p) → T (ltb p (length (G .atoms)))
-        inside = closed-least s l x (λ p. ltb p (length (G .atoms))) (λ p t. lt→ltb p (length (G .atoms)) (on-seed laid f p t .0))
-            (λ p q b t. lt→ltb q (length (G .atoms)) (omega (arith, brings-atom s l b .1, laid-long laid)))
+        inside : (p : ℕ) → T (on r p) → T (ltb p (length kinds))
+        inside = x .least .least (λ p. ltb p (length kinds)) (λ p t. lt→ltb p (length kinds) (omega (arith, on-seed laid f p t .0, laid-long laid))) (atoms-shut (ready-readable kinds firsts heads starts literals w))
 
-pub ruleset reaching = (ready-columns, ready-readable, reach-from, reach-to, reach-seeded, reach-reached)
+pub ruleset reaching = (reach-unsown, reach-heads, reach-atoms, reach-following, reach-reached)

@@ -1,4 +1,5 @@
 pub mod Promise
 pub mod Seeds
-pub mod Trues
-pub mod Links
+pub mod Bodies
+pub mod Onward
+pub mod Steps

@@ -1,27 +1,26 @@
 -- What the reach's caller brings, and what it gets.
 use mathlib.Core.Path.{_≡_}
 use mathlib.Core.List.{List}
-use Prim.Native.Nat.{ℕ, _<_, _≤_}
+use Prim.Native.Nat.{ℕ, _≤_}
 use lib.ListN.{length, getD}
-use Rattle.gdl.specs.Game.{Game, trueKind, atomAt, kindOf}
+use Rattle.gdl.specs.Game.{Game}
 use Rattle.gdl.specs.Reach.{Reach}
 use Rattle.gdl.specs.Flags.{on}
-use Rattle.gdl.specs.Layout.{kindsOf, firstsOf, literalsOf, ownersOf, Small}
+use Rattle.gdl.specs.Layout.{kindsOf, firstsOf, headsOf, startsFrom, literalsOf, Small}
 
--- the arrays are those of the game: of the atoms the kinds and the first fields, and the literals, each with its owner
-pub record Laid (G : Game) (kinds firsts literals owners : List ℕ) : Type 0 where
+-- the arrays are those of the game: of the atoms the kinds and the first fields, and of the clauses the heads and the literals
+pub record Laid (G : Game) (kinds firsts heads starts literals : List ℕ) : Type 0 where
   pub isKinds : kinds ≡ kindsOf (G .atoms)
   pub isFirsts : firsts ≡ firstsOf (G .atoms)
+  pub isHeads : heads ≡ headsOf (G .clauses)
+  pub isStarts : starts ≡ startsFrom 0 (G .clauses)
   pub isLiterals : literals ≡ literalsOf (G .clauses)
-  pub isOwners : owners ≡ ownersOf (G .clauses)
 
--- the arrays hold a game of a table's size; since its "Records ascend strictly", no fluent has two true atoms
-pub record Ready (kinds firsts literals owners : List ℕ) : Type 0 where
+-- the arrays hold a game of a table's size
+pub record Ready (kinds firsts heads starts literals : List ℕ) : Type 0 where
   pub game : Game
-  pub laid : Laid game kinds firsts literals owners
+  pub laid : Laid game kinds firsts heads starts literals
   pub small : Small game
-  pub oneTrue : (p q : ℕ) → p < length (game .atoms) → q < length (game .atoms) → kindOf game p ≡ trueKind → kindOf game q ≡ trueKind
-      → atomAt game p .first ≡ atomAt game q .first → p ≡ q
 
 -- the flags that are 1 are the reach of the seat: 1,024 flags, 0 or 1, none set after the last atom
 pub record Reached (G : Game) (seat : ℕ) (flags : List ℕ) : Type 0 where

@@ -1,7 +1,8 @@
 // The atoms that a seat's reach starts from: "every sees, legal and goal atom of the seat and the terminal atom".
 ghost use mathlib.Core.Path.{_≡_};
 ghost use lib.ListN.{length};
-ghost use Rattle.reach.specs.Seeds.{seedFlag, Columns, Seeds};
+ghost use Rattle.edges.specs.Marks.{Markable};
+ghost use Rattle.reach.specs.Seeds.{seedFlag, Taken, Unsown, Sown};
 
 const LEGAL_KIND: u16 = 5;
 
@@ -33,16 +34,33 @@ fn seed(kind: u16, first: u16, seat: u16) -> u8
     0
 }
 
-// The flags of these atoms: one visit of each of at most 1,024 atoms.
-pub(super) fn seeds_of(kinds: &[u16], firsts: &[u16], seat: u16) -> [u8; 1024]
-    requires { ⌜ Columns (now kinds) (now firsts) ⌝ }
-    ensures { λ r. ⌜ Seeds (now (kinds .entry)) (now (firsts .entry)) seat (length (now (kinds .entry))) r ⌝ }
+// Marks atom `p`, if it is one of these. Answers how many the queue holds.
+fn take(seed: u8, p: usize, marks: &mut [u8; 1024], queue: &mut [u16; 1024], n: usize) -> usize
+    requires { ⌜ Markable p (now marks) n ⌝ }
+    ensures { λ r. ⌜ Taken seed p (now (marks .entry)) (now (queue .entry)) n (now (marks .exit)) (now (queue .exit)) r ⌝ }
 {
-    let mut seeds = edges::marks::no_marks();
+    if seed == 1 {
+        return edges::marks::mark(p, marks, queue, n);
+    }
+    n
+}
+
+// Marks and queues these atoms: one visit of each of at most 1,024 atoms.
+pub(super) fn sow(
+    kinds: &[u16],
+    firsts: &[u16],
+    seat: u16,
+    marks: &mut [u8; 1024],
+    queue: &mut [u16; 1024],
+) -> usize
+    requires { ⌜ Unsown (now kinds) (now firsts) (now marks) (now queue) ⌝ }
+    ensures { λ r. ⌜ Sown (now (kinds .entry)) (now (firsts .entry)) seat (length (now (kinds .entry))) (now (marks .exit)) (now (queue .exit)) r ⌝ }
+{
+    let mut n: usize = 0;
     let mut p = 0;
     while p < kinds.len() {
-        seeds[p] = seed(kinds[p], firsts[p], seat);
+        n = take(seed(kinds[p], firsts[p], seat), p, marks, queue, n);
         p += 1;
     }
-    seeds
+    n
 }

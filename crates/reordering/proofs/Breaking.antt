@@ -7,7 +7,7 @@ use lib.ListN.{length, getD}
 use Rattle.gdl.specs.Game.{Clause, Game, roleKind, trueKind, doesKind, kindOf}
 use Rattle.gdl.specs.Graph.{itself}
 use Rattle.rules.specs.Rules.{oneOf, RoleBroken, HeadBroken, BodyBroken, Leans, LevelsBroken, RoleMissing}
-use Rattle.rules.proofs.Finding.{at-mem, mem-at}
+use Rattle.gdl.proofs.Layouts.{at-mem, mem-at}
 use Rattle.reordering.specs.Reordered.{Within, withClauses}
 use Rattle.reordering.proofs.Swapping.{depends-more, turns-more}
 

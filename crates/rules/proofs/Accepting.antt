@@ -20,7 +20,7 @@ use Rattle.rules.specs.Rules.{RoleFact, Ruled, JudgedOf, Judged, ValidTa
 use Rattle.rules.specs.Judged.{roleGiven, judge}
 use Rattle.rules.specs.Limits.{Limits}
 use Rattle.rules.specs.Accepted.{Accepted}
-use Rattle.rules.proofs.Finding.{at-mem, mem-at}
+use Rattle.gdl.proofs.Layouts.{at-mem, mem-at}
 use Rattle.rules.proofs.Reading.{table-limits}
 use Rattle.rules.proofs.Judging.{role-find, role-make, judge-is}
 

@@ -1,5 +1,5 @@
 -- Laws of elements and of places: what a test of some element, or of some number below a bound, finds; what stands at a place of a list.
-use mathlib.Core.Path.{_≡_, refl, sym, ap₂, subst}
+use mathlib.Core.Path.{_≡_, refl, ap₂, subst}
 use mathlib.Core.Logic.{inl, inr}
 use mathlib.Core.Bool.{Bool, not, _||_}
 use mathlib.Core.List.{List, [], _∷_, map, List·Memᴰ, List·Memᴰ·head, List·Memᴰ·tail}
@@ -8,7 +8,6 @@ use native.Mathlib.Nat.{not-suc-le-zero}
 use native.Mathlib.Omega.{arith}
 use native.Mathlib.Decide.{ℕ-discrete}
 use lib.Dec.{T, eqb, eqb→eq, T-not}
-use lib.ListN.{length, getD}
 use Rattle.gdl.proofs.Tests.{and-left, and-right, or-left, or-right, or-cases}
 use Rattle.rules.specs.Rules.{some, oneOf}
 use Rattle.rules.specs.Judged.{disjoint, someBelow}
@@ -48,18 +47,6 @@ module _ (f : ℕ → Bool) where
     | inl u ↦ (n, omega arith, u)
     | inr u ↦ let r = below-find n u in (r .0, omega (arith, r .1), r .2)
   ]
-
--- ---- elements and places
-
-module _ {A : Type 0} (d : A) where
-  pub at-mem : (xs : List A) (i : ℕ) → i < length xs → List·Memᴰ (getD xs i d) xs
-  at-mem [] i lt = absurd (not-suc-le-zero lt)
-  at-mem (x ∷ xs) zero lt = List·Memᴰ·head refl
-  at-mem (x ∷ xs) (suc i) lt = List·Memᴰ·tail (at-mem xs i (omega arith))
-
-  pub mem-at : (xs : List A) (x : A) → List·Memᴰ x xs → (i : ℕ) × (i < length xs) × (getD xs i d ≡ x)
-  mem-at (y ∷ ys) x (List·Memᴰ·head e) = (0, omega arith, sym e)
-  mem-at (y ∷ ys) x (List·Memᴰ·tail m) = let r = mem-at ys x m in (suc (r .0), omega (arith, r .1), r .2)
 
 -- ---- kinds
 

@@ -20,7 +20,7 @@ use Rattle.table.specs.declared.header.Players.{Players}
 use Rattle.table.specs.declared.header.Sizes.{Sizes}
 use Rattle.table.proofs.Values.{All, all-after, Fine, bounded-fine}
 use Rattle.rules.specs.Limits.{endOf, Limits}
-use Rattle.rules.proofs.Finding.{at-mem}
+use Rattle.gdl.proofs.Layouts.{at-mem}
 
 -- what follows a test that did not strike
 all-unless : {A : Type 0} (P : A → ℕ → Type 0) (f : Refusal) (b : Bool) (s : List ℕ) (at : ℕ) (k : Unit {0} → ℕ → Parse A)

@@ -1,8 +1,7 @@
--- The atom records of a table "ascend strictly by kind, then first field, then second"; so no fluent has two true atoms.
+-- The atom records of a table "ascend strictly by kind, then first field, then second".
 use Prim.Native.Nat.{ℕ, zero, suc, _+_, _≤_, _<_}
 use native.Mathlib.Nat.{not-suc-le-zero}
 use native.Mathlib.Omega.{arith}
-use native.Mathlib.Decide.{ℕ-discrete}
 use mathlib.Core.Path.{_≡_, refl, subst}
 use mathlib.Core.Bool.{Bool, true, false}
 use mathlib.Core.List.{List, [], _∷_}
@@ -10,46 +9,28 @@ use lib.Dec.{ltb}
 use lib.ListN.{length, getD}
 use borrow.Author.Tests.{ltb-false}
 use Rattle.refusals.specs.declared.Refusal.the-variants.{NotAbove, TableTooLong}
-use Rattle.gdl.specs.Game.{Atom, Game, trueKind, atomAt, kindOf}
-use Rattle.table.specs.Parse.{Parse, ok, fault, after, refuse_if_, bounded}
-use Rattle.table.specs.Table.{firstBound, secondBound, field, atom, key, atomsFrom, clauses, header, game, table}
+use Rattle.gdl.specs.Game.{Atom, Game, atomAt}
+use Rattle.table.specs.Parse.{ok, after, refuse_if_}
+use Rattle.table.specs.Table.{atom, key, atomsFrom, clauses, header, game, table}
 use Rattle.table.specs.declared.header.Header.{Header}
 use Rattle.table.proofs.Values.{All, all-after, any}
 
--- each atom is at least at a place in the order, the first at `least`; and a true atom has no second field
+-- each atom is at least at a place in the order, the first at `least`
 abbrev Ascends : ℕ → List Atom → Type 0
 Ascends least [] = Unit {0}
-Ascends least (a ∷ l) = ((least ≤ key a) × (a .kind ≡ trueKind → a .second ≡ 0)) × Ascends (key a + 1) l
+Ascends least (a ∷ l) = (least ≤ key a) × Ascends (key a + 1) l
 
 -- ---- what is read
-
-always : {A : Type 0} (P : A → ℕ → Type 0) → ((a : A) (n : ℕ) → P a n) → (p : Parse A) → All P p
-always P f (ok a n) = f a n
-always P f (fault g) = tt
-
-second-none : (h : Header) (kind : ℕ) (s : List ℕ) (at : ℕ) → All (λ v n. kind ≡ trueKind → v ≡ 0) (field (secondBound h kind) s at)
-unfolding field secondBound
-second-none h kind s at = elim (ℕ-discrete kind trueKind) [
-  | yes e ↦ rw e (λ _. refl)
-  | no ne ↦ always (λ v n. kind ≡ trueKind → v ≡ 0) (λ v n e. absurd (ne e)) (field (secondBound h kind) s at)
-]
-
-atom-second : (h : Header) (s : List ℕ) (at : ℕ) → All (λ a n. a .kind ≡ trueKind → a .second ≡ 0) (atom h s at)
-unfolding atom
-atom-second h s at =
-    all-after _ _ (bounded 0 10 s at) _ (any (bounded 0 10 s at)) λ kind n _.
-    all-after _ _ (field (firstBound h kind) s n) _ (any (field (firstBound h kind) s n)) λ first m _.
-    all-after _ _ (field (secondBound h kind) s m) _ (second-none h kind s m) λ second e z. z
 
 atoms-read : (h : Header) (n least : ℕ) (s : List ℕ) (at : ℕ) → All (λ l m. Ascends least l) (atomsFrom h n least s at)
 unfolding atomsFrom
 atoms-read h zero least s at = tt
-atoms-read h (suc n) least s at = all-after _ _ (atom h s at) _ (atom-second h s at) λ a m z. go a m z (atoms-read h n (key a + 1) s m) (ltb (key a) least) refl
+atoms-read h (suc n) least s at = all-after _ _ (atom h s at) _ (any (atom h s at)) λ a m _. go a m (atoms-read h n (key a + 1) s m) (ltb (key a) least) refl
   where
-    go : (a : Atom) (m : ℕ) → (a .kind ≡ trueKind → a .second ≡ 0) → All (λ l e. Ascends (key a + 1) l) (atomsFrom h n (key a + 1) s m) → (b : Bool) → ltb (key a) least ≡ b
+    go : (a : Atom) (m : ℕ) → All (λ l e. Ascends (key a + 1) l) (atomsFrom h n (key a + 1) s m) → (b : Bool) → ltb (key a) least ≡ b
         → All (λ l e. Ascends least l) (after ((refuse (NotAbove at) if b) s m) (λ _ m′. after (atomsFrom h n (key a + 1) s m′) (λ rest e. ok (a ∷ rest) e)))
-    go a m z later true e = tt
-    go a m z later false e = all-after _ _ (atomsFrom h n (key a + 1) s m) _ later λ rest m′ r. ((ltb-false (key a) least e, z), r)
+    go a m later true e = tt
+    go a m later false e = all-after _ _ (atomsFrom h n (key a + 1) s m) _ later λ rest m′ r. (ltb-false (key a) least e, r)
 
 table-read : (s : List ℕ) → All (λ G n. Ascends 0 (G .atoms)) (table s 0)
 unfolding table game
@@ -66,8 +47,8 @@ table-read s = go (ltb 65535 (length s))
 module _ (d : Atom) where
   key-low : (l : List Atom) (least q : ℕ) → Ascends least l → q < length l → least ≤ key (getD l q d)
   key-low [] least q r lt = absurd (not-suc-le-zero lt)
-  key-low (a ∷ l) least zero r lt = r .0 .0
-  key-low (a ∷ l) least (suc q) r lt = omega (arith, r .0 .0, key-low l (key a + 1) q (r .1) (omega arith))
+  key-low (a ∷ l) least zero r lt = r .0
+  key-low (a ∷ l) least (suc q) r lt = omega (arith, r .0, key-low l (key a + 1) q (r .1) (omega arith))
 
   key-rises : (l : List Atom) (least p q : ℕ) → Ascends least l → p < q → q < length l → key (getD l p d) < key (getD l q d)
   key-rises [] least p q r lt h = absurd (not-suc-le-zero h)
@@ -75,24 +56,9 @@ module _ (d : Atom) where
   key-rises (a ∷ l) least zero (suc q) r lt h = omega (arith, key-low l (key a + 1) q (r .1) (omega arith))
   key-rises (a ∷ l) least (suc p) (suc q) r lt h = key-rises l (key a + 1) p q (r .1) (omega arith) (omega arith)
 
-  true-second : (l : List Atom) (least p : ℕ) → Ascends least l → p < length l → getD l p d .kind ≡ trueKind → getD l p d .second ≡ 0
-  true-second [] least p r lt = absurd (not-suc-le-zero lt)
-  true-second (a ∷ l) least zero r lt = r .0 .1
-  true-second (a ∷ l) least (suc p) r lt = true-second l (key a + 1) p (r .1) (omega arith)
-
 module _ (s : List ℕ) (G : Game) (n : ℕ) (e : table s 0 ≡ ok G n) where
   ascends : Ascends 0 (G .atoms)
   ascends = subst (All (λ G n. Ascends 0 (G .atoms))) e (table-read s)
 
   pub atoms-ascend : (p q : ℕ) → p < q → q < length (G .atoms) → key (atomAt G p) < key (atomAt G q)
   atoms-ascend p q = key-rises _ (G .atoms) 0 p q ascends
-
-  pub one-true : (p q : ℕ) → p < length (G .atoms) → q < length (G .atoms) → kindOf G p ≡ trueKind → kindOf G q ≡ trueKind
-      → atomAt G p .first ≡ atomAt G q .first → p ≡ q
-  unfolding key
-  one-true p q pl ql tp tq f =
-      let a : atomAt G p .second ≡ 0 = true-second _ (G .atoms) 0 p ascends pl tp in
-      let b : atomAt G q .second ≡ 0 = true-second _ (G .atoms) 0 q ascends ql tq in
-      let up : p < q → ⊥ = λ lt. omega (arith, atoms-ascend p q lt ql) in
-      let down : q < p → ⊥ = λ lt. omega (arith, atoms-ascend q p lt pl) in
-      omega arith

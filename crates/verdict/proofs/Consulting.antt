@@ -33,15 +33,14 @@ use Rattle.rules.proofs.Judging.{fault-judge, read-judge}
 use Rattle.rules.proofs.Accepting.{accepted}
 use Rattle.judge.specs.Judgement.{Judges}
 use Rattle.judge.specs.declared.Judgement.{Judgement}
-use Rattle.table.proofs.Ascending.{one-true}
 use Rattle.reach.specs.Promise.{Reached}
 use Rattle.reach.proofs.Determined.{reached-is}
 use Rattle.truth.specs.Promise.{Modelled}
 use Rattle.truth.proofs.Modelled.{modelled-any}
-use Rattle.verdict.specs.Laid.{Laid, LaidToJudge, LaidToModel, Judgeable, Modelable, LaidToTrace, Traceable}
+use Rattle.verdict.specs.Laid.{Laid, LaidToJudge, LaidToModel, Judgeable, Modelable, Traceable}
 use Rattle.verdict.specs.Consulted.{found, foundIn, Accepts, examined}
 use Rattle.verdict.specs.Weighed.{Blanks, Fits, Weighs}
-use Rattle.verdict.proofs.Laying.{parts, room-long}
+use Rattle.verdict.proofs.Laying.{parts}
 use Rattle.verdict.specs.declared.Examined.{Examined}
 use Rattle.verdict.specs.declared.Weighed.{Weighed}
 use Rattle.verdict.specs.declared.Weighed.the-variants as W
@@ -144,7 +143,6 @@ module _ {s : List ℕ} {h : Header} {many : ℕ} {kinds firsts seconds heads st
           owners-are = g .owners-are;
           ruled = ruled;
           levelled = a .levels z (g .game) to-judge;
-          oneTrue = one-true s (g .game) (g .end) (g .read);
         }
 
 -- ---- what is asked of an accepted table
@@ -156,18 +154,14 @@ module _ {v : Verdict} {h : Header} {many top : ℕ} {kinds firsts seconds heads
   pub modelable : Modelable kinds firsts seconds heads starts literals levels top (h .sizes .atoms) many
   modelable = record { game = f .game; held = to-model; accepted = f .ruled; levelled = f .levelled }
 
-  to-trace : LaidToTrace kinds firsts starts literals owners (h .sizes .atoms) many (f .game)
-  to-trace = record { heads = heads; laid = f .laid; owners-are = f .owners-are }
-
-  pub traceable : Traceable kinds firsts starts literals owners (h .sizes .atoms) many
-  traceable = record { game = f .game; held = to-trace; oneTrue = f .oneTrue }
+  pub traceable : Traceable kinds firsts heads starts literals (h .sizes .atoms) many
+  traceable = record { game = f .game; held = f .laid }
 
   -- how long each array is
   pub record Counts : Type 0 where
     pub heads-count : 2048 ≡ length heads
     pub starts-count : 2049 ≡ length starts
     pub literals-count : 8192 ≡ length literals
-    pub owners-count : 8192 ≡ length owners
 
   pub counts : Counts
   counts =
@@ -176,7 +170,6 @@ module _ {v : Verdict} {h : Header} {many top : ℕ} {kinds firsts seconds heads
         heads-count = sym (p .heads-long);
         starts-count = sym (p .starts-long);
         literals-count = sym (p .literals-long);
-        owners-count = sym (rw (f .owners-are) (room-long 8192 (ownersOf (f .game .clauses))));
       }
 
   found-is : (X Y : List ℕ) → X ≡ Y ++ blank (1024 - length (f .game .atoms)) → found h kinds firsts seconds X ≡ foundIn (f .game) Y
@@ -193,12 +186,12 @@ module _ (s : List ℕ) {h : Header} {many top : ℕ} {kinds firsts seconds head
   }
 
   pub fit-traced : (z : ℕ) (X : List ℕ)
-      → ((G : Game) → LaidToTrace kinds firsts starts literals owners (h .sizes .atoms) many G → Reached G z X)
+      → ((G : Game) → Laid kinds firsts heads starts literals (h .sizes .atoms) many G → Reached G z X)
       → Accepts (judge s) (λ G. reachOf G z) (found h kinds firsts seconds X)
   fit-traced z X m = record {
     game = f .game;
     verdict = f .verdict;
-    is = found-is f X (reachOf (f .game) z) (reached-is (accepted s (f .game) (f .verdict) .valid) (m (f .game) (to-trace f)) (f .laid .limits .atoms));
+    is = found-is f X (reachOf (f .game) z) (reached-is (accepted s (f .game) (f .verdict) .valid) (m (f .game) (f .laid)) (f .laid .limits .atoms));
   }
 
   pub fit-examined : _≡_ {A = Examined} (record { refusal = Success; header = h }) (examined (judge s))

@@ -1,7 +1,7 @@
 -- Laws of the arrays of a decoded table: the parts in use, and that they hold the game.
 use mathlib.Core.Path.{_≡_, refl, sym, ap, subst, _∙_}
 use mathlib.Core.List.{List, [], _∷_, _++_, map, List·Memᴰ, List·Memᴰ·head, List·Memᴰ·tail, List·Memᴰ·not-nil}
-use Prim.Native.Nat.{ℕ, suc, _+_, _-_, _≤_, _<_}
+use Prim.Native.Nat.{ℕ, suc, _+_, _≤_, _<_}
 use native.Mathlib.Omega.{arith}
 use native.Mathlib.Nat.{add-zero, sub-zero}
 use lib.ListN.{length, getD, take, drop, length-map, length-append, length-replicate}
@@ -18,7 +18,7 @@ use Rattle.judge.specs.declared.Judgement.{Judgement}
 use Rattle.truth.specs.Promise.{Ready}
 use Rattle.reach.specs.Promise as R
 use Rattle.verdict.specs.Consulted.{cut}
-use Rattle.verdict.specs.Laid.{Laid, LaidToJudge, LaidToModel, Judgeable, Modelable, LaidToTrace, Traceable}
+use Rattle.verdict.specs.Laid.{Laid, LaidToJudge, LaidToModel, Judgeable, Modelable, Traceable}
 
 -- the part in use of a room
 pub part-used : (n : ℕ) (xs : List ℕ) → length xs ≤ n → take (length xs) (sets (blank n) 0 xs) ≡ xs
@@ -79,6 +79,27 @@ module _ {kinds firsts heads starts literals : List ℕ} {atoms many : ℕ} {G :
       used : getD starts many 0 ≡ length (literalsOf (G .clauses))
       used = sym (getD-take (many + 1) starts many 0 (omega arith)) ∙ (ap (λ (l : List ℕ). getD l many 0) starts-part ∙ rw (h .many-are) (last-start 0 (G .clauses) ∙ omega arith))
 
+  -- the parts lie in the arrays
+  pub record Ends : Type 0 where
+    pub kinds-end : atoms ≤ length kinds
+    pub firsts-end : atoms ≤ length firsts
+    pub heads-end : many ≤ length heads
+    pub starts-end : many + 1 ≤ length starts
+    pub literals-end : getD starts many 0 ≤ length literals
+    pub small : getD starts many 0 ≤ 8192
+
+  pub ends : Ends
+  ends =
+      let l = h .limits in
+      record {
+        kinds-end = omega (arith, parts .kinds-long, h .atoms-are, l .atoms);
+        firsts-end = omega (arith, parts .firsts-long, h .atoms-are, l .atoms);
+        heads-end = omega (arith, parts .heads-long, h .many-are, l .clauses);
+        starts-end = omega (arith, parts .starts-long, h .many-are, l .clauses);
+        literals-end = omega (arith, parts .literals-long, parts .used, l .literals);
+        small = omega (arith, parts .used, l .literals);
+      }
+
 module _ {kinds firsts heads starts literals owners : List ℕ} {atoms many seats : ℕ} where
   -- the part of the owners in use, and how long the room is
   owners-part : {G : Game} → LaidToJudge kinds firsts heads starts literals owners atoms many seats G → take (getD starts many 0) owners ≡ ownersOf (G .clauses)
@@ -100,30 +121,10 @@ module _ {kinds firsts heads starts literals owners : List ℕ} {atoms many seat
       }
 
   module _ (j : Judgeable kinds firsts heads starts literals owners atoms many seats) where
-    pub record Ends : Type 0 where
-      pub kinds-end : atoms ≤ length kinds
-      pub firsts-end : atoms ≤ length firsts
-      pub heads-end : many ≤ length heads
-      pub starts-end : many + 1 ≤ length starts
-      pub literals-end : getD starts many 0 ≤ length literals
-      pub owners-end : getD starts many 0 ≤ length owners
-      pub small : getD starts many 0 ≤ 8192
-
-    pub ends : Ends
-    ends =
-        let h = j .held in
-        let p = parts (h .laid) in
-        let l = h .laid .limits in
-        let o : length owners ≡ 8192 = rw (h .owners-are) (room-long 8192 (ownersOf (j .game .clauses))) in
-        record {
-          kinds-end = omega (arith, p .kinds-long, h .laid .atoms-are, l .atoms);
-          firsts-end = omega (arith, p .firsts-long, h .laid .atoms-are, l .atoms);
-          heads-end = omega (arith, p .heads-long, h .laid .many-are, l .clauses);
-          starts-end = omega (arith, p .starts-long, h .laid .many-are, l .clauses);
-          literals-end = omega (arith, p .literals-long, p .used, l .literals);
-          owners-end = omega (arith, p .used, l .literals);
-          small = omega (arith, p .used, l .literals);
-        }
+    pub owners-end : getD starts many 0 ≤ length owners
+    owners-end =
+        let o : length owners ≡ 8192 = rw (j .held .owners-are) (room-long 8192 (ownersOf (j .game .clauses))) in
+        omega (arith, ends (j .held .laid) .small)
 
     pub holds-part : HoldsGame (cut atoms kinds) (cut atoms firsts) (cut many heads) (cut (many + 1) starts) (cut (getD starts many 0) literals) (cut (getD starts many 0) owners) seats
     holds-part = record { game = j .game; held = held-part (j .held) }
@@ -179,30 +180,10 @@ module _ {kinds firsts seconds heads starts literals : List ℕ} {atoms many : �
       s = length-map (G .atoms) (λ a. a .second)
 
   module _ {levels : List ℕ} {top : ℕ} (m : Modelable kinds firsts seconds heads starts literals levels top atoms many) where
-    pub record ModelEnds : Type 0 where
-      pub kinds-end : atoms ≤ length kinds
-      pub firsts-end : atoms ≤ length firsts
-      pub seconds-end : atoms ≤ length seconds
-      pub heads-end : many ≤ length heads
-      pub starts-end : many + 1 ≤ length starts
-      pub literals-end : getD starts many 0 ≤ length literals
-      pub small : getD starts many 0 ≤ 8192
-
-    pub model-ends : ModelEnds
-    model-ends =
-        let h = m .held in
-        let p = parts (h .laid) in
-        let l = h .laid .limits in
-        let s : length seconds ≡ 1024 = rw (h .seconds-are) (room-long 1024 (secondsOf (m .game .atoms))) in
-        record {
-          kinds-end = omega (arith, p .kinds-long, h .laid .atoms-are, l .atoms);
-          firsts-end = omega (arith, p .firsts-long, h .laid .atoms-are, l .atoms);
-          seconds-end = omega (arith, h .laid .atoms-are, l .atoms);
-          heads-end = omega (arith, p .heads-long, h .laid .many-are, l .clauses);
-          starts-end = omega (arith, p .starts-long, h .laid .many-are, l .clauses);
-          literals-end = omega (arith, p .literals-long, p .used, l .literals);
-          small = omega (arith, p .used, l .literals);
-        }
+    pub seconds-end : atoms ≤ length seconds
+    seconds-end =
+        let s : length seconds ≡ 1024 = rw (m .held .seconds-are) (room-long 1024 (secondsOf (m .game .atoms))) in
+        omega (arith, m .held .laid .atoms-are, m .held .laid .limits .atoms)
 
     pub model-ready : Ready (cut atoms kinds) (cut atoms firsts) (cut atoms seconds) (cut many heads) (cut (many + 1) starts) (cut (getD starts many 0) literals) levels top
     model-ready = record {
@@ -215,39 +196,12 @@ module _ {kinds firsts seconds heads starts literals : List ℕ} {atoms many : �
 
 -- ---- reach
 
-module _ {kinds firsts starts literals owners : List ℕ} {atoms many : ℕ} where
-  owners-used : {G : Game} → LaidToTrace kinds firsts starts literals owners atoms many G → take (getD starts many 0) owners ≡ ownersOf (G .clauses)
-  owners-used {G} h = rw (parts (h .laid) .used, h .owners-are, ← (owners-long (G .clauses))) (part-used 8192 (ownersOf (G .clauses)) (omega (arith, owners-long (G .clauses), h .laid .limits .literals)))
-
-  pub held-trace : {G : Game} → LaidToTrace kinds firsts starts literals owners atoms many G
-      → R.Laid G (cut atoms kinds) (cut atoms firsts) (cut (getD starts many 0) literals) (cut (getD starts many 0) owners)
+module _ {kinds firsts heads starts literals : List ℕ} {atoms many : ℕ} where
+  pub held-trace : {G : Game} → Laid kinds firsts heads starts literals atoms many G
+      → R.Laid G (cut atoms kinds) (cut atoms firsts) (cut many heads) (cut (many + 1) starts) (cut (getD starts many 0) literals)
   held-trace h =
-      let p = parts (h .laid) in
-      record { isKinds = rw sub-zero (p .kinds-part); isFirsts = rw sub-zero (p .firsts-part); isLiterals = rw sub-zero (p .literals-part); isOwners = rw sub-zero (owners-used h) }
+      let p = parts h in
+      record { isKinds = rw sub-zero (p .kinds-part); isFirsts = rw sub-zero (p .firsts-part); isHeads = rw sub-zero (p .heads-part); isStarts = rw sub-zero (p .starts-part); isLiterals = rw sub-zero (p .literals-part) }
 
-  module _ (t : Traceable kinds firsts starts literals owners atoms many) where
-    pub record TraceEnds : Type 0 where
-      pub kinds-end : atoms ≤ length kinds
-      pub firsts-end : atoms ≤ length firsts
-      pub starts-end : many + 1 ≤ length starts
-      pub literals-end : getD starts many 0 ≤ length literals
-      pub owners-end : getD starts many 0 ≤ length owners
-      pub small : getD starts many 0 ≤ 8192
-
-    pub trace-ends : TraceEnds
-    trace-ends =
-        let h = t .held in
-        let p = parts (h .laid) in
-        let l = h .laid .limits in
-        let o : length owners ≡ 8192 = rw (h .owners-are) (room-long 8192 (ownersOf (t .game .clauses))) in
-        record {
-          kinds-end = omega (arith, p .kinds-long, h .laid .atoms-are, l .atoms);
-          firsts-end = omega (arith, p .firsts-long, h .laid .atoms-are, l .atoms);
-          starts-end = omega (arith, p .starts-long, h .laid .many-are, l .clauses);
-          literals-end = omega (arith, p .literals-long, p .used, l .literals);
-          owners-end = omega (arith, p .used, l .literals);
-          small = omega (arith, p .used, l .literals);
-        }
-
-    pub trace-ready : R.Ready (cut atoms kinds) (cut atoms firsts) (cut (getD starts many 0) literals) (cut (getD starts many 0) owners)
-    trace-ready = record { game = t .game; laid = held-trace (t .held); small = small-game (t .held .laid .limits); oneTrue = t .oneTrue }
+  pub trace-ready : Traceable kinds firsts heads starts literals atoms many → R.Ready (cut atoms kinds) (cut atoms firsts) (cut many heads) (cut (many + 1) starts) (cut (getD starts many 0) literals)
+  trace-ready t = record { game = t .game; laid = held-trace (t .held); small = small-game (t .held .limits) }

@@ -1,10 +1,10 @@
 -- The arrays of a decoded table, and what is asked of them.
 use mathlib.Core.Path.{_≡_}
 use mathlib.Core.List.{List}
-use Prim.Native.Nat.{ℕ, _<_}
+use Prim.Native.Nat.{ℕ}
 use lib.ListN.{length}
 use lib.Seq.{sets}
-use Rattle.gdl.specs.Game.{Game, trueKind, atomAt, kindOf}
+use Rattle.gdl.specs.Game.{Game}
 use Rattle.gdl.specs.Flags.{blank}
 use Rattle.gdl.specs.Layout.{kindsOf, firstsOf, secondsOf, headsOf, startsFrom, literalsOf, ownersOf}
 use Rattle.rules.specs.Limits.{Limits}
@@ -46,14 +46,7 @@ pub record Modelable (kinds firsts seconds heads starts literals levels : List �
   pub accepted : Ruled game (fit game)
   pub levelled : Levelled game levels top
 
--- what reach reads
-pub record LaidToTrace (kinds firsts starts literals owners : List ℕ) (atoms many : ℕ) (G : Game) : Type 0 where
-  pub heads : List ℕ
-  pub laid : Laid kinds firsts heads starts literals atoms many G
-  pub owners-are : owners ≡ sets (blank 8192) 0 (ownersOf (G .clauses))
-
--- some game is held, in which a fluent has one true atom
-pub record Traceable (kinds firsts starts literals owners : List ℕ) (atoms many : ℕ) : Type 0 where
+-- some game is held, as reach reads it
+pub record Traceable (kinds firsts heads starts literals : List ℕ) (atoms many : ℕ) : Type 0 where
   pub game : Game
-  pub held : LaidToTrace kinds firsts starts literals owners atoms many game
-  pub oneTrue : (p q : ℕ) → p < length (game .atoms) → q < length (game .atoms) → kindOf game p ≡ trueKind → kindOf game q ≡ trueKind → atomAt game p .first ≡ atomAt game q .first → p ≡ q
+  pub held : Laid kinds firsts heads starts literals atoms many game

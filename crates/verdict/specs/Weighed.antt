@@ -1,10 +1,9 @@
 -- The verdict on a table that was read into lent arrays.
 use mathlib.Core.Path.{_≡_}
 use mathlib.Core.List.{List}
-use Prim.Native.Nat.{ℕ, _<_}
-use lib.ListN.{length}
+use Prim.Native.Nat.{ℕ}
 use lib.Seq.{sets}
-use Rattle.gdl.specs.Game.{Game, trueKind, atomAt, kindOf}
+use Rattle.gdl.specs.Game.{Game}
 use Rattle.gdl.specs.Flags.{blank}
 use Rattle.gdl.specs.Layout.{secondsOf, ownersOf}
 use Rattle.table.specs.Says.{headerOf}
@@ -36,7 +35,6 @@ pub record Fits (v : Verdict) (h : Header) (many top : ℕ) (kinds firsts second
   pub owners-are : owners ≡ sets (blank 8192) 0 (ownersOf (game .clauses))
   pub ruled : Ruled game (fit game)
   pub levelled : Levelled game levels top
-  pub oneTrue : (p q : ℕ) → p < length (game .atoms) → q < length (game .atoms) → kindOf game p ≡ trueKind → kindOf game q ≡ trueKind → atomAt game p .first ≡ atomAt game q .first → p ≡ q
 
 -- what an answer says of the verdict and the arrays
 abbrev pub Weighs : Verdict → Weighed → List ℕ → List ℕ → List ℕ → List ℕ → List ℕ → List ℕ → List ℕ → List ℕ → Type 0

@@ -26,7 +26,7 @@ ghost use Rattle.truth.specs.Marks.{marksOf};
 ghost use Rattle.verdict.specs.Consulted.{found, foundIn, BlankAtoms, Learns, examined, Fit, cut, Columns};
 ghost use Rattle.reach.specs.Promise.{Reached};
 ghost use Rattle.verdict.specs.Weighed.{Blanks, Weighs};
-ghost use Rattle.verdict.specs.Laid.{LaidToJudge, LaidToModel, Judgeable, Modelable, LaidToTrace, Traceable};
+ghost use Rattle.verdict.specs.Laid.{LaidToJudge, LaidToModel, Judgeable, Modelable, Laid, Traceable};
 
 // The check, on the parts of the arrays that are in use.
 fn judge_part(
@@ -300,15 +300,15 @@ pub fn marks_in(
 fn reach_part(
     kinds: &[u16],
     firsts: &[u16],
+    heads: &[u16],
     starts: &[u16],
     literals: &[u16],
-    owners: &[u16],
     atoms: u16,
     many: u16,
     seat: u16,
 ) -> [u8; 1024]
-    requires { ⌜ Traceable (now kinds) (now firsts) (now starts) (now literals) (now owners) atoms many ⌝ }
-    ensures { λ r. ⌜ ((G : Game) → LaidToTrace (now (kinds .entry)) (now (firsts .entry)) (now (starts .entry)) (now (literals .entry)) (now (owners .entry)) atoms many G → Reached G seat r) ⌝ }
+    requires { ⌜ Traceable (now kinds) (now firsts) (now heads) (now starts) (now literals) atoms many ⌝ }
+    ensures { λ r. ⌜ ((G : Game) → Laid (now (kinds .entry)) (now (firsts .entry)) (now (heads .entry)) (now (starts .entry)) (now (literals .entry)) atoms many G → Reached G seat r) ⌝ }
 {
     let a = atoms as usize;
     let n = many as usize;
@@ -316,8 +316,9 @@ fn reach_part(
     reach::reach_of(
         &kinds[0..a],
         &firsts[0..a],
+        &heads[0..n],
+        &starts[0..n + 1],
         &literals[0..m],
-        &owners[0..m],
         seat,
     )
 }
@@ -355,9 +356,9 @@ pub fn trace(
             let found = reach_part(
                 kinds,
                 firsts,
+                &heads,
                 &starts,
                 &literals,
-                &owners,
                 header.sizes.atoms,
                 many,
                 seat,

@@ -1,5 +1,6 @@
 -- Each `return` is one law: a refusal stands whatever follows, and where nothing is refused what follows decides.
 use borrow.Author.Needs.{needs}
+use Rattle.edges.specs.Uses.{noUses, noNexts}
 use Rattle.judge.proofs.Ordering.{judging}
 use Rattle.judge.proofs.Shaping.{shapes}
 use Rattle.judge.proofs.judge_arrays.Statement.{statement}
@@ -16,6 +17,10 @@ refused-requires c κs = search needs
 
 returns : tie.Need-returns
 returns c = search (needs, shapes, judging)
+
+index-uses-requires : tie.Need-index-uses-requires
+unfolding noUses noNexts
+index-uses-requires c κs = search (needs, shapes)
 
 judge-uses-requires : tie.Need-judge-uses-requires
 judge-uses-requires c κs = search (needs, shapes, judging)
@@ -43,6 +48,7 @@ judge-arrays-spec =
     number-of-requires
     refused-requires
     returns
+    index-uses-requires
     judge-uses-requires
     number-of-requires-2
     refused-requires-2

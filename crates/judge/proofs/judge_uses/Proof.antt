@@ -1,21 +1,11 @@
 -- Each `return` is what the searches before it found: nothing, or the first place.
 use borrow.Author.Needs.{needs}
 use Rattle.judge.proofs.Ordering.{answering}
-use Rattle.judge.proofs.Shaping.{indexing}
 use Rattle.judge.proofs.judge_uses.Statement.{statement}
 use Rattle.judge.proofs.judge_uses.Tie as tie
 
-no-uses-requires : tie.Need-no-uses-requires
-no-uses-requires c κs = search needs
-
-no-nexts-requires : tie.Need-no-nexts-requires
-no-nexts-requires c κs = search needs
-
-index-uses-requires : tie.Need-index-uses-requires
-index-uses-requires c κs = search (needs, indexing)
-
 lowest-misusing-requires : tie.Need-lowest-misusing-requires
-lowest-misusing-requires c κs = search (needs, indexing)
+lowest-misusing-requires c κs = search needs
 
 enum-known-i : tie.Need-enum-known-i
 enum-known-i c = search needs
@@ -27,7 +17,7 @@ enum-told : tie.Need-enum-told
 enum-told c = search needs
 
 lowest-leaning-requires : tie.Need-lowest-leaning-requires
-lowest-leaning-requires c κs = search (needs, indexing)
+lowest-leaning-requires c κs = search needs
 
 enum-known-p : tie.Need-enum-known-p
 enum-known-p c = search needs
@@ -39,7 +29,7 @@ enum-told-2 : tie.Need-enum-told-2
 enum-told-2 c = search needs
 
 lowest-leaning-requires-2 : tie.Need-lowest-leaning-requires-2
-lowest-leaning-requires-2 c κs = search (needs, indexing)
+lowest-leaning-requires-2 c κs = search needs
 
 enum-known-p-2 : tie.Need-enum-known-p-2
 enum-known-p-2 c = search needs
@@ -57,9 +47,6 @@ pub judge-uses-spec : {M : Type 1} → statement M
 judge-uses-spec =
     tie.close
     (tie.spec
-    no-uses-requires
-    no-nexts-requires
-    index-uses-requires
     lowest-misusing-requires
     enum-known-i
     returns

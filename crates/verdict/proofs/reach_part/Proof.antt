@@ -1,6 +1,6 @@
 -- The parts of the arrays that are in use hold the game that the arrays hold.
 use native.Mathlib.Omega.{arith}
-use Rattle.verdict.proofs.Laying.{trace-ends, trace-ready, held-trace}
+use Rattle.verdict.proofs.Laying.{ends, trace-ready, held-trace}
 use borrow.Author.Needs.{needs}
 use Rattle.verdict.proofs.reach_part.Statement.{statement}
 use Rattle.verdict.proofs.reach_part.Tie as tie
@@ -9,10 +9,10 @@ mul-m : tie.Need-mul-m
 mul-m c = search needs
 
 shared-slice-read-m : tie.Need-shared-slice-read-m
-shared-slice-read-m c = omega (arith, trace-ends (c .before .before .before .before .before .before .pre) .starts-end)
+shared-slice-read-m c = omega (arith, ends (c .before .before .before .before .before .before .pre .held) .starts-end)
 
 cast-m : tie.Need-cast-m
-cast-m c = omega (arith, trace-ends (c .before .before .before .before .before .before .pre) .small)
+cast-m c = omega (arith, ends (c .before .before .before .before .before .before .pre .held) .small)
 
 sub-reach-of : tie.Need-sub-reach-of
 sub-reach-of c = search needs
@@ -21,7 +21,7 @@ part-reach-of-start : tie.Need-part-reach-of-start
 part-reach-of-start c = search needs
 
 part-reach-of-end : tie.Need-part-reach-of-end
-part-reach-of-end c = omega (arith, trace-ends (c .before .before .before .before .before .before .pre) .kinds-end)
+part-reach-of-end c = omega (arith, ends (c .before .before .before .before .before .before .pre .held) .kinds-end)
 
 sub-reach-of-2 : tie.Need-sub-reach-of-2
 sub-reach-of-2 c = search needs
@@ -30,7 +30,7 @@ part-reach-of-start-2 : tie.Need-part-reach-of-start-2
 part-reach-of-start-2 c = search needs
 
 part-reach-of-end-2 : tie.Need-part-reach-of-end-2
-part-reach-of-end-2 c = omega (arith, trace-ends (c .before .before .before .before .before .before .before .pre) .firsts-end)
+part-reach-of-end-2 c = omega (arith, ends (c .before .before .before .before .before .before .before .pre .held) .firsts-end)
 
 sub-reach-of-3 : tie.Need-sub-reach-of-3
 sub-reach-of-3 c = search needs
@@ -39,7 +39,10 @@ part-reach-of-start-3 : tie.Need-part-reach-of-start-3
 part-reach-of-start-3 c = search needs
 
 part-reach-of-end-3 : tie.Need-part-reach-of-end-3
-part-reach-of-end-3 c = omega (arith, trace-ends (c .before .before .before .before .before .before .before .before .pre) .literals-end)
+part-reach-of-end-3 c = omega (arith, ends (c .before .before .before .before .before .before .before .before .pre .held) .heads-end)
+
+add-reach-of : tie.Need-add-reach-of
+add-reach-of c = search needs
 
 sub-reach-of-4 : tie.Need-sub-reach-of-4
 sub-reach-of-4 c = search needs
@@ -48,10 +51,19 @@ part-reach-of-start-4 : tie.Need-part-reach-of-start-4
 part-reach-of-start-4 c = search needs
 
 part-reach-of-end-4 : tie.Need-part-reach-of-end-4
-part-reach-of-end-4 c = omega (arith, trace-ends (c .before .before .before .before .before .before .before .before .before .pre) .owners-end)
+part-reach-of-end-4 c = omega (arith, ends (c .before .before .before .before .before .before .before .before .before .pre .held) .starts-end)
+
+sub-reach-of-5 : tie.Need-sub-reach-of-5
+sub-reach-of-5 c = search needs
+
+part-reach-of-start-5 : tie.Need-part-reach-of-start-5
+part-reach-of-start-5 c = search needs
+
+part-reach-of-end-5 : tie.Need-part-reach-of-end-5
+part-reach-of-end-5 c = omega (arith, ends (c .before .before .before .before .before .before .before .before .before .before .pre .held) .literals-end)
 
 reach-of-requires : tie.Need-reach-of-requires
-reach-of-requires c κs = trace-ready (c .before .before .before .before .before .before .before .before .before .before .pre)
+reach-of-requires c κs = trace-ready (c .before .before .before .before .before .before .before .before .before .before .before .pre)
 
 returns : tie.Need-returns
 returns c = λ G h. c .reach-of .ensures G (held-trace h)
@@ -72,8 +84,12 @@ reach-part-spec =
     sub-reach-of-3
     part-reach-of-start-3
     part-reach-of-end-3
+    add-reach-of
     sub-reach-of-4
     part-reach-of-start-4
     part-reach-of-end-4
+    sub-reach-of-5
+    part-reach-of-start-5
+    part-reach-of-end-5
     reach-of-requires
     returns)

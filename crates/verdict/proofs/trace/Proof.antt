@@ -33,21 +33,21 @@ slice-aggregate-reach-part c =
     let weigh = c .before .before .before .before .before .before .before .before .weigh in
     let header = c .before .before .before .before .before .before .header in
     let fits = says-fit _ _ _ _ _ _ _ _ _ _ (weigh .ensures) _ _ _ (header .given .1) in
-    counts fits .starts-count
+    counts fits .heads-count
 
 slice-aggregate-reach-part-2 : tie.Need-slice-aggregate-reach-part-2
 slice-aggregate-reach-part-2 c =
     let weigh = c .before .before .before .before .before .before .before .before .before .weigh in
     let header = c .before .before .before .before .before .before .before .header in
     let fits = says-fit _ _ _ _ _ _ _ _ _ _ (weigh .ensures) _ _ _ (header .given .1) in
-    counts fits .literals-count
+    counts fits .starts-count
 
 slice-aggregate-reach-part-3 : tie.Need-slice-aggregate-reach-part-3
 slice-aggregate-reach-part-3 c =
     let weigh = c .before .before .before .before .before .before .before .before .before .before .weigh in
     let header = c .before .before .before .before .before .before .before .before .header in
     let fits = says-fit _ _ _ _ _ _ _ _ _ _ (weigh .ensures) _ _ _ (header .given .1) in
-    counts fits .owners-count
+    counts fits .literals-count
 
 reach-part-requires : tie.Need-reach-part-requires
 reach-part-requires c κs =

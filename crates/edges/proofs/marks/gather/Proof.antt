@@ -1,31 +1,31 @@
--- The seeds below p are marked and queued, and nothing else.
-use borrow.Author.Needs.{needs}
-use Prim.Native.Nat.{_-_}
+-- The marked nodes below p are queued, and nothing else.
+use Prim.Native.Nat.{_-_, _≤_}
 use Rattle.edges.specs.Marks.{Gathered}
 use Rattle.edges.proofs.Marking.{gatherings}
+use borrow.Author.Needs.{needs}
 use Rattle.edges.proofs.marks.gather.Statement.{statement}
 use Rattle.edges.proofs.marks.gather.Tie as tie
 
 abbrev Inv-loop : tie.InvT-loop
-Inv-loop seeds size marks₀ queue₀ n₀ p₀ marks queue n p = Gathered seeds marks queue p n
+Inv-loop marks size queue₀ n₀ p₀ queue n p = (p ≤ size) × Gathered marks queue p n
 
 abbrev μ-loop : tie.MeasureT-loop
-μ-loop seeds size marks₀ queue₀ n₀ p₀ marks queue n p = size - p
+μ-loop marks size queue₀ n₀ p₀ queue n p = size - p
 
 loop-holds : tie.Need-loop-holds Inv-loop μ-loop
 loop-holds c = search (needs, gatherings)
 
-element-copy-out-take : tie.Need-element-copy-out-take Inv-loop μ-loop
-element-copy-out-take c = search needs
+element-copy-out-line-up : tie.Need-element-copy-out-line-up Inv-loop μ-loop
+element-copy-out-line-up c = search (needs, gatherings)
 
-take-requires : tie.Need-take-requires Inv-loop μ-loop
-take-requires c κs = search (needs, gatherings)
+line-up-requires : tie.Need-line-up-requires Inv-loop μ-loop
+line-up-requires c κs = search (needs, gatherings)
 
 add-p : tie.Need-add-p Inv-loop μ-loop
-add-p c = search needs
+add-p c = search (needs, gatherings)
 
 loop-less : tie.Need-loop-less Inv-loop μ-loop
-loop-less c = search needs
+loop-less c = search (needs, gatherings)
 
 loop-again : tie.Need-loop-again Inv-loop μ-loop
 loop-again c = search (needs, gatherings)
@@ -40,8 +40,8 @@ gather-spec =
     Inv-loop
     μ-loop
     loop-holds
-    element-copy-out-take
-    take-requires
+    element-copy-out-line-up
+    line-up-requires
     add-p
     loop-less
     loop-again

@@ -7,7 +7,7 @@ use Rattle.edges.proofs.marks.visit.Statement.{statement}
 use Rattle.edges.proofs.marks.visit.Tie as tie
 
 abbrev Inv-loop : tie.InvT-loop
-Inv-loop from to first next marks₀ queue₀ at n p out₀ k₀ marks queue out k = Visiting from to marks₀ marks queue at p out k
+Inv-loop from to first next marks₀ queue₀ at n p out₀ k₀ marks queue out k = Visiting from to marks₀ queue₀ n marks queue p out k
 
 abbrev μ-loop : tie.MeasureT-loop
 μ-loop from to first next marks₀ queue₀ at n p out₀ k₀ marks queue out k = length to - k

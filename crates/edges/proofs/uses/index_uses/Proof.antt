@@ -1,11 +1,12 @@
 -- The uses from edge k on are indexed, and k falls.
 use borrow.Author.Needs.{needs}
-use Rattle.edges.proofs.Indexing.{Indexing, indexes}
+use Rattle.edges.specs.Uses.{EdgesFrom}
+use Rattle.edges.proofs.Indexing.{indexes}
 use Rattle.edges.proofs.uses.index_uses.Statement.{statement}
 use Rattle.edges.proofs.uses.index_uses.Tie as tie
 
 abbrev Inv-loop : tie.InvT-loop
-Inv-loop to first₀ next₀ k₀ first next k = Indexing to first next k
+Inv-loop to first₀ next₀ k₀ first next k = EdgesFrom to first next k
 
 abbrev μ-loop : tie.MeasureT-loop
 μ-loop to first₀ next₀ k₀ first next k = k

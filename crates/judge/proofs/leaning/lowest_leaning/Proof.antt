@@ -1,11 +1,11 @@
 -- The loop: no atom passed leans. A marked atom of these kinds is none of those, so it depends on one.
 use Prim.Native.Nat.{_-_}
 use lib.ListN.{length}
-use borrow.Author.Needs.{needs}
 use Rattle.rules.specs.Rules.{Leans}
 use Rattle.judge.specs.Arrays.{theseOf, thoseOf, HeldEdges}
 use Rattle.judge.proofs.Marking.{leaning}
 use Rattle.judge.proofs.Searching.{Clear, searches}
+use borrow.Author.Needs.{needs}
 use Rattle.judge.proofs.leaning.lowest_leaning.Statement.{statement}
 use Rattle.judge.proofs.leaning.lowest_leaning.Tie as tie
 
@@ -15,8 +15,11 @@ Inv-loop rule kinds owners literals first next marks p₀ p = Clear (HeldEdges k
 abbrev μ-loop : tie.MeasureT-loop
 μ-loop rule kinds owners literals first next marks p₀ p = length kinds - p
 
-marks-of-requires : tie.Need-marks-of-requires Inv-loop μ-loop
-marks-of-requires c κs = search (needs, searches, leaning)
+no-marks-requires : tie.Need-no-marks-requires Inv-loop μ-loop
+no-marks-requires c κs = search (needs, searches, leaning)
+
+mark-resting-requires : tie.Need-mark-resting-requires Inv-loop μ-loop
+mark-resting-requires c κs = search (needs, searches, leaning)
 
 loop-holds : tie.Need-loop-holds Inv-loop μ-loop
 loop-holds c = search (needs, searches, leaning)
@@ -28,10 +31,10 @@ returns : tie.Need-returns Inv-loop μ-loop
 returns c = search (needs, searches, leaning)
 
 add-p : tie.Need-add-p Inv-loop μ-loop
-add-p c = search needs
+add-p c = search (needs, searches, leaning)
 
 loop-less : tie.Need-loop-less Inv-loop μ-loop
-loop-less c = search needs
+loop-less c = search (needs, searches, leaning)
 
 loop-again : tie.Need-loop-again Inv-loop μ-loop
 loop-again c = search (needs, searches, leaning)
@@ -45,7 +48,8 @@ lowest-leaning-spec =
     (tie.spec
     Inv-loop
     μ-loop
-    marks-of-requires
+    no-marks-requires
+    mark-resting-requires
     loop-holds
     marked-requires
     returns
