@@ -84,9 +84,6 @@ closing-starts Brings m q n w = record {
 
 module _ (Brings : ℕ → ℕ → Type 0) (seeds : List ℕ) where
   module _ (m q : List ℕ) (at n : ℕ) (i : Closing Brings seeds m q at n) where
-    pub closing-turn : at < n → Turn Brings m q at n
-    closing-turn lt = record { work = i .work; waits = lt }
-
     pub closing-less : at < n → 1024 - (at + 1) < 1024 - at
     closing-less lt = omega (arith, queue-few (i .work .queue))
 
@@ -109,4 +106,4 @@ module _ (Brings : ℕ → ℕ → Type 0) (seeds : List ℕ) where
       flags = i .work .queue .flags;
     }
 
-pub ruleset closings = (closing-starts, closing-turn, closing-less, closing-more, closing-done)
+pub ruleset closings = (closing-starts, closing-less, closing-more, closing-done)

@@ -5,7 +5,7 @@ ghost use Rattle.edges.specs.Closure.{Back, ClosedBack};
 ghost use Rattle.edges.specs.Marks.{noMarks, Markable, Marked, Seeded, Lined, Gathered, Visit, Visited, Closable};
 use super::wide;
 
-// No node is marked.
+// No node is marked, and none is queued.
 pub fn no_marks() -> [u8; 1024]
     ensures { λ r. ⌜ r ≡ noMarks ⌝ }
 {

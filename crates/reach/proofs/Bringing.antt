@@ -23,21 +23,6 @@ pub record BodyBrought (starts literals : List ℕ) (c : ℕ) (m₀ q₀ : List 
   pub met : (j : ℕ) → getD starts c 0 ≤ j → j < k → getD m (getD literals j 0 / 2) 0 ≡ 1
 
 module _ (starts literals : List ℕ) (c : ℕ) (m₀ q₀ : List ℕ) (n : ℕ) (a : BodyAsked starts literals c m₀ q₀ n) where
-  pub start-in : c < length starts
-  start-in = omega (arith, a .within, a .clauses .long)
-
-  pub end-in : c + 1 < length starts
-  end-in = omega (arith, a .within, a .clauses .long)
-
-  pub start-scaled : Fits w64 (c * 2)
-  start-scaled = omega (arith, a .within, a .clauses .isHeads .few)
-
-  pub end-scaled : Fits w64 ((c + 1) * 2)
-  end-scaled = omega (arith, a .within, a .clauses .isHeads .few)
-
-  pub end-fits : Fits w64 (c + 1)
-  end-fits = omega (arith, a .within, a .clauses .isHeads .few)
-
   pub body-starts : (k : ℕ) → k ≡ getD starts c 0 → BodyBrought starts literals c m₀ q₀ n m₀ q₀ n k
   body-starts k ek = record { joined = joined-none (a .queue); from = omega arith; met = λ j ge lt. absurd (omega arith) }
 
@@ -48,9 +33,6 @@ module _ (starts literals : List ℕ) (c : ℕ) (m₀ q₀ : List ℕ) (n : ℕ)
 
       pub literal-scaled : Fits w64 (k * 2)
       literal-scaled = omega (arith, literal-in, a .clauses .few)
-
-      pub literal-next : Fits w64 (k + 1)
-      literal-next = omega (arith, literal-in, a .clauses .few)
 
       module _ (h : ℕ) (eh : h ≡ getD literals k 0 / 2) where
         atom-in : h < 1024
@@ -74,7 +56,7 @@ module _ (starts literals : List ℕ) (c : ℕ) (m₀ q₀ : List ℕ) (n : ℕ)
     pub body-done : end ≤ k → Brought (InBody starts literals c) m₀ q₀ n m q out
     body-done le = record { joined = i .joined; all = λ h b. subst (λ (y : ℕ). getD m y 0 ≡ 1) (b .isAtom) (i .met (b .place) (b .from) (omega (arith, b .to))) }
 
-pub ruleset body-rules = (start-in, end-in, start-scaled, end-scaled, end-fits, body-starts, literal-in, literal-scaled, literal-next, body-markable, body-more, body-done)
+pub ruleset body-rules = (body-starts, literal-in, literal-scaled, body-markable, body-more, body-done)
 
 -- ---- the clauses of a head
 
@@ -84,9 +66,6 @@ pub record BodiesBrought (heads starts literals : List ℕ) (p : ℕ) (m₀ q₀
   pub walked : Walked (HeadAt heads) (length heads) (λ d. (h : ℕ) → InBody starts literals d h → getD m h 0 ≡ 1) p c
 
 module _ (heads starts literals first next : List ℕ) (p : ℕ) (m₀ q₀ : List ℕ) (n : ℕ) (a : BodiesAsked heads starts literals first next p m₀ q₀ n) where
-  pub head-scaled : Fits w64 (p * 2)
-  head-scaled = omega (arith, a .atom)
-
   pub bodies-start : (c : ℕ) → c ≡ getD first p 0 → BodiesBrought heads starts literals p m₀ q₀ n m₀ q₀ n c
   bodies-start c ec = record {
     joined = joined-none (a .queue);
@@ -95,15 +74,6 @@ module _ (heads starts literals first next : List ℕ) (p : ℕ) (m₀ q₀ : Li
 
   module _ (m q : List ℕ) (out c : ℕ) (i : BodiesBrought heads starts literals p m₀ q₀ n m q out c) where
     module _ (lt : c < length heads) where
-      pub clause-in : c < 2048
-      clause-in = omega (arith, a .clauses .isHeads .few)
-
-      pub clause-scaled : Fits w64 (c * 2)
-      clause-scaled = omega (arith, clause-in)
-
-      pub body-asked : BodyAsked starts literals c m q out
-      body-asked = record { heads = heads; clauses = a .clauses; within = lt; queue = i .joined .queue }
-
       module _ (c′ : ℕ) (ec : c′ ≡ getD next c 0) where
         after : FirstUse (HeadAt heads) (length heads) 2048 p (suc c) c′
         after = subst (FirstUse (HeadAt heads) (length heads) 2048 p (suc c)) (sym ec) (a .index .chained .nexts p c (a .atom) (omega arith) lt (i .walked .here lt))
@@ -120,7 +90,7 @@ module _ (heads starts literals first next : List ℕ) (p : ℕ) (m₀ q₀ : Li
     pub bodies-done : length heads ≤ c → Brought (InBodies heads starts literals p) m₀ q₀ n m q out
     bodies-done le = record { joined = i .joined; all = λ h b. i .walked .met (b .clause) (omega (arith, b .within)) (b .within) (b .isHead) h (b .inBody) }
 
-pub ruleset bodies-rules = (head-scaled, bodies-start, clause-in, clause-scaled, body-asked, clause-less, bodies-more, bodies-done)
+pub ruleset bodies-rules = (bodies-start, clause-less, bodies-more, bodies-done)
 
 -- ---- the next and init atoms of a fluent
 
@@ -130,12 +100,6 @@ pub record OnwardBrought (kinds firsts : List ℕ) (p : ℕ) (m₀ q₀ : List �
   pub walked : Walked (Onward kinds firsts) (length kinds) (λ j. getD m j 0 ≡ 1) f h
 
 module _ (kinds firsts fluents later : List ℕ) (p : ℕ) (m₀ q₀ : List ℕ) (n : ℕ) (a : OnwardAsked kinds firsts fluents later p m₀ q₀ n) where
-  pub atom-in-firsts : p < length firsts
-  atom-in-firsts = omega (arith, a .atom, a .lows .columns .same)
-
-  pub atom-scaled : Fits w64 (p * 2)
-  atom-scaled = omega (arith, a .atom, a .lows .columns .few)
-
   pub onward-none : (getD kinds p 0 ≡ 3 → ⊥) → Brought (Follows kinds firsts p) m₀ q₀ n m₀ q₀ n
   onward-none ne = record { joined = joined-none (a .queue); all = λ h b. absurd (ne (b .isTrue)) }
 
@@ -157,12 +121,6 @@ module _ (kinds firsts fluents later : List ℕ) (p : ℕ) (m₀ q₀ : List ℕ
         pub later-in : h < 1024
         later-in = omega (arith, a .lows .columns .few)
 
-        pub later-scaled : Fits w64 (h * 2)
-        later-scaled = omega (arith, later-in)
-
-        pub onward-markable : Markable h m out
-        onward-markable = record { node = later-in; has = i .joined .queue .has }
-
         module _ (h′ : ℕ) (eh : h′ ≡ getD later h 0) where
           beyond : FirstUse (Onward kinds firsts) (length kinds) 1024 f (suc h) h′
           beyond = subst (FirstUse (Onward kinds firsts) (length kinds) 1024 f (suc h)) (sym eh) (a .index .chained .nexts f h fluent-in (omega arith) lt (i .walked .here lt))
@@ -178,4 +136,4 @@ module _ (kinds firsts fluents later : List ℕ) (p : ℕ) (m₀ q₀ : List ℕ
       pub onward-done : length kinds ≤ h → Brought (Follows kinds firsts p) m₀ q₀ n m q out
       onward-done le = record { joined = i .joined; all = λ j b. i .walked .met j (omega (arith, b .within)) (b .within) (subst (λ (x : ℕ). Onward kinds firsts x j) (sym ef) (b .onward)) }
 
-pub ruleset onward-rules = (atom-in-firsts, atom-scaled, onward-none, fluent-in, fluent-scaled, onward-starts, later-in, later-scaled, onward-markable, onward-less, onward-more, onward-done)
+pub ruleset onward-rules = (onward-none, fluent-in, fluent-scaled, onward-starts, later-in, onward-less, onward-more, onward-done)

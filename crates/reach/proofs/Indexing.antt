@@ -55,9 +55,6 @@ module _ (kinds firsts fluents later : List ℕ) (q : ℕ) (e : O.Entering kinds
     enter-high ge = chain-skip (e .above) q (add-one q) (λ g lt o. omega (arith, o .fluent))
 
     module _ (lt : f < 512) where
-      pub enter-scaled : Fits w64 (f * 2)
-      enter-scaled = omega arith
-
       pub enter-onward : not b ≡ false → O.AtomsFrom kinds firsts (set fluents f q) (set later q (getD fluents f 0)) q
       enter-onward n = chain-more (e .above) q (add-one q) f lt (omega (arith, e .within, e .columns .few)) (record { kind = subst T eb (yes b n); fluent = sym ef }) (λ g o. sym (o .fluent) ∙ sym ef)
         where
@@ -79,4 +76,4 @@ atoms-next kinds firsts fluents later low c i pos = record { columns = c; within
 pub atoms-done : (kinds firsts fluents later : List ℕ) (low : ℕ) → O.AtomsFrom kinds firsts fluents later low → low ≤ 0 → O.Indexed kinds firsts fluents later
 atoms-done kinds firsts fluents later low i le = chain-done i le
 
-pub ruleset atom-indexes = (atoms-start, onward-next, onward-init, enter-other, enter-high, enter-scaled, enter-onward, atoms-next, atoms-done)
+pub ruleset atom-indexes = (atoms-start, onward-next, onward-init, enter-other, enter-high, enter-onward, atoms-next, atoms-done)

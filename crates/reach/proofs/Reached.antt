@@ -35,14 +35,6 @@ module _ (kinds firsts heads starts literals first next fluents later m q : List
     visit-onward = record { lows = v .index .readable .lows; index = v .index .atoms; atom = omega (arith, v .atom); queue = v .turn .work .queue }
 
     module _ (m′ q′ : List ℕ) (n′ : ℕ) (o : Brought (O.Follows kinds firsts p) m q n m′ q′ n′) where
-      pub visit-bodies : B.BodiesAsked heads starts literals first next p m′ q′ n′
-      visit-bodies = record {
-        clauses = v .index .readable .clauses;
-        index = v .index .clauses;
-        atom = omega (arith, v .atom, v .index .readable .lows .columns .few);
-        queue = o .joined .queue;
-      }
-
       pub visit-done : (m″ q″ : List ℕ) (n″ : ℕ) → Brought (B.InBodies heads starts literals p) m′ q′ n′ m″ q″ n″ → Visited (Brings kinds firsts heads starts literals) m at m″ q″ n″
       visit-done m″ q″ n″ b = turn-done (Brings kinds firsts heads starts literals) m q at n (v .turn) p ep m″ q″ n″ (record {
         joined = joined-more (joined-as (λ h x. byFluent x) (o .joined)) (joined-as (λ h x. byBody x) (b .joined));
@@ -53,7 +45,7 @@ module _ (kinds firsts heads starts literals first next fluents later m q : List
           all h (byBody x) = b .all h x
           all h (byFluent x) = b .joined .keeps h (o .all h x)
 
-pub ruleset visits = (turns, visit-turn, visit-onward, visit-bodies, visit-done)
+pub ruleset visits = (turns, visit-turn, visit-onward, visit-done)
 
 -- ---- one turn after another
 

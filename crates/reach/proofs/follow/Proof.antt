@@ -20,7 +20,7 @@ visit-requires : tie.Need-visit-requires Inv-loop μ-loop
 visit-requires c κs = search (needs, followings)
 
 add-at : tie.Need-add-at Inv-loop μ-loop
-add-at c = search (needs, followings)
+add-at c = search needs
 
 loop-less : tie.Need-loop-less Inv-loop μ-loop
 loop-less c = search (needs, followings)

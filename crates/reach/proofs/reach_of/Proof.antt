@@ -7,10 +7,10 @@ use Rattle.reach.proofs.reach_of.Statement.{statement}
 use Rattle.reach.proofs.reach_of.Tie as tie
 
 no-marks-requires : tie.Need-no-marks-requires
-no-marks-requires c κs = search (needs, reaching)
+no-marks-requires c κs = search needs
 
 no-queue-requires : tie.Need-no-queue-requires
-no-queue-requires c κs = search (needs, reaching)
+no-queue-requires c κs = search needs
 
 sow-requires : tie.Need-sow-requires
 sow-requires c κs = search (needs, reaching)

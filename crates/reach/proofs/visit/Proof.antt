@@ -11,13 +11,13 @@ element-copy-out-wide : tie.Need-element-copy-out-wide
 element-copy-out-wide c = search (needs, visits)
 
 wide-requires : tie.Need-wide-requires
-wide-requires c κs = search (needs, visits)
+wide-requires c κs = search needs
 
 bring-onward-requires : tie.Need-bring-onward-requires
 bring-onward-requires c κs = search (needs, visits)
 
 bring-bodies-requires : tie.Need-bring-bodies-requires
-bring-bodies-requires c κs = search (needs, visits)
+bring-bodies-requires c κs = search needs
 
 returns : tie.Need-returns
 returns c = search (needs, visits)

@@ -14,19 +14,19 @@ abbrev μ-loop : tie.MeasureT-loop
 μ-loop from to first next marks₀ size queue₀ gathered n₀ at₀ marks queue n at = 1024 - at
 
 no-queue-requires : tie.Need-no-queue-requires Inv-loop μ-loop
-no-queue-requires c κs = search (needs, closings)
+no-queue-requires c κs = search needs
 
 gather-requires : tie.Need-gather-requires Inv-loop μ-loop
-gather-requires c κs = search (needs, closings)
+gather-requires c κs = search needs
 
 loop-holds : tie.Need-loop-holds Inv-loop μ-loop
 loop-holds c = search (needs, closings, gathered-waits)
 
 visit-requires : tie.Need-visit-requires Inv-loop μ-loop
-visit-requires c κs = search (needs, closings)
+visit-requires c κs = search needs
 
 add-at : tie.Need-add-at Inv-loop μ-loop
-add-at c = search (needs, closings)
+add-at c = search needs
 
 loop-less : tie.Need-loop-less Inv-loop μ-loop
 loop-less c = search (needs, closings)

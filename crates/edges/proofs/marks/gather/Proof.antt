@@ -16,16 +16,16 @@ loop-holds : tie.Need-loop-holds Inv-loop μ-loop
 loop-holds c = search (needs, gatherings)
 
 element-copy-out-line-up : tie.Need-element-copy-out-line-up Inv-loop μ-loop
-element-copy-out-line-up c = search (needs, gatherings)
+element-copy-out-line-up c = search needs
 
 line-up-requires : tie.Need-line-up-requires Inv-loop μ-loop
 line-up-requires c κs = search (needs, gatherings)
 
 add-p : tie.Need-add-p Inv-loop μ-loop
-add-p c = search (needs, gatherings)
+add-p c = search needs
 
 loop-less : tie.Need-loop-less Inv-loop μ-loop
-loop-less c = search (needs, gatherings)
+loop-less c = search needs
 
 loop-again : tie.Need-loop-again Inv-loop μ-loop
 loop-again c = search (needs, gatherings)

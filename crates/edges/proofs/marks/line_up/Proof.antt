@@ -5,16 +5,16 @@ use Rattle.edges.proofs.marks.line_up.Statement.{statement}
 use Rattle.edges.proofs.marks.line_up.Tie as tie
 
 cast-queue : tie.Need-cast-queue
-cast-queue c = search (needs, linings)
+cast-queue c = search needs
 
 mul-queue : tie.Need-mul-queue
-mul-queue c = search (needs, linings)
+mul-queue c = search needs
 
 element-write-queue : tie.Need-element-write-queue
-element-write-queue c = search (needs, linings)
+element-write-queue c = search needs
 
 add-result : tie.Need-add-result
-add-result c = search (needs, linings)
+add-result c = search needs
 
 returns : tie.Need-returns
 returns c = search (needs, linings)

@@ -16,25 +16,25 @@ abbrev μ-loop : tie.MeasureT-loop
 μ-loop rule kinds owners literals first next marks p₀ p = length kinds - p
 
 no-marks-requires : tie.Need-no-marks-requires Inv-loop μ-loop
-no-marks-requires c κs = search (needs, searches, leaning)
+no-marks-requires c κs = search needs
 
 mark-resting-requires : tie.Need-mark-resting-requires Inv-loop μ-loop
-mark-resting-requires c κs = search (needs, searches, leaning)
+mark-resting-requires c κs = search needs
 
 loop-holds : tie.Need-loop-holds Inv-loop μ-loop
-loop-holds c = search (needs, searches, leaning)
+loop-holds c = search needs
 
 marked-requires : tie.Need-marked-requires Inv-loop μ-loop
-marked-requires c κs = search (needs, searches, leaning)
+marked-requires c κs = search needs
 
 returns : tie.Need-returns Inv-loop μ-loop
 returns c = search (needs, searches, leaning)
 
 add-p : tie.Need-add-p Inv-loop μ-loop
-add-p c = search (needs, searches, leaning)
+add-p c = search needs
 
 loop-less : tie.Need-loop-less Inv-loop μ-loop
-loop-less c = search (needs, searches, leaning)
+loop-less c = search needs
 
 loop-again : tie.Need-loop-again Inv-loop μ-loop
 loop-again c = search (needs, searches, leaning)

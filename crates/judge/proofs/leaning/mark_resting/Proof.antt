@@ -5,7 +5,7 @@ use Rattle.judge.proofs.leaning.mark_resting.Statement.{statement}
 use Rattle.judge.proofs.leaning.mark_resting.Tie as tie
 
 sow-requires : tie.Need-sow-requires
-sow-requires c κs = search (needs, leaning)
+sow-requires c κs = search needs
 
 close-back-requires : tie.Need-close-back-requires
 close-back-requires c κs = search (needs, leaning)

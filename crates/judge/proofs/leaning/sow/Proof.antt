@@ -17,25 +17,25 @@ loop-holds : tie.Need-loop-holds Inv-loop μ-loop
 loop-holds c = search (needs, leaning)
 
 mul-of-those : tie.Need-mul-of-those Inv-loop μ-loop
-mul-of-those c = search (needs, leaning)
+mul-of-those c = search needs
 
 shared-slice-read-of-those : tie.Need-shared-slice-read-of-those Inv-loop μ-loop
-shared-slice-read-of-those c = search (needs, leaning)
+shared-slice-read-of-those c = search needs
 
 of-those-requires : tie.Need-of-those-requires Inv-loop μ-loop
-of-those-requires c κs = search (needs, leaning)
+of-those-requires c κs = search needs
 
 flag-requires : tie.Need-flag-requires Inv-loop μ-loop
-flag-requires c κs = search (needs, leaning)
+flag-requires c κs = search needs
 
 element-write-marks : tie.Need-element-write-marks Inv-loop μ-loop
-element-write-marks c = search (needs, leaning)
+element-write-marks c = search needs
 
 add-p : tie.Need-add-p Inv-loop μ-loop
-add-p c = search (needs, leaning)
+add-p c = search needs
 
 loop-less : tie.Need-loop-less Inv-loop μ-loop
-loop-less c = search (needs, leaning)
+loop-less c = search needs
 
 loop-again : tie.Need-loop-again Inv-loop μ-loop
 loop-again c = search (needs, leaning)

@@ -13,28 +13,28 @@ abbrev μ-loop : tie.MeasureT-loop
 μ-loop heads starts literals first next p marks₀ queue₀ n out₀ c₀ marks queue out c = length heads - c
 
 mul-wide : tie.Need-mul-wide Inv-loop μ-loop
-mul-wide c = search (needs, bodies-rules)
+mul-wide c = search needs
 
 element-copy-out-wide : tie.Need-element-copy-out-wide Inv-loop μ-loop
-element-copy-out-wide c = search (needs, bodies-rules)
+element-copy-out-wide c = search needs
 
 wide-requires : tie.Need-wide-requires Inv-loop μ-loop
-wide-requires c κs = search (needs, bodies-rules)
+wide-requires c κs = search needs
 
 loop-holds : tie.Need-loop-holds Inv-loop μ-loop
 loop-holds c = search (needs, bodies-rules)
 
 bring-body-requires : tie.Need-bring-body-requires Inv-loop μ-loop
-bring-body-requires c κs = search (needs, bodies-rules)
+bring-body-requires c κs = search needs
 
 mul-wide-2 : tie.Need-mul-wide-2 Inv-loop μ-loop
-mul-wide-2 c = search (needs, bodies-rules)
+mul-wide-2 c = search needs
 
 element-copy-out-wide-2 : tie.Need-element-copy-out-wide-2 Inv-loop μ-loop
-element-copy-out-wide-2 c = search (needs, bodies-rules)
+element-copy-out-wide-2 c = search needs
 
 wide-requires-2 : tie.Need-wide-requires-2 Inv-loop μ-loop
-wide-requires-2 c κs = search (needs, bodies-rules)
+wide-requires-2 c κs = search needs
 
 loop-less : tie.Need-loop-less Inv-loop μ-loop
 loop-less c = search (needs, bodies-rules)

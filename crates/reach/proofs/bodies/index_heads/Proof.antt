@@ -15,16 +15,16 @@ loop-holds : tie.Need-loop-holds Inv-loop μ-loop
 loop-holds c = search (needs, clause-indexes)
 
 sub-c : tie.Need-sub-c Inv-loop μ-loop
-sub-c c = search (needs, clause-indexes)
+sub-c c = search needs
 
 mul-wide : tie.Need-mul-wide Inv-loop μ-loop
-mul-wide c = search (needs, clause-indexes)
+mul-wide c = search needs
 
 shared-slice-read-wide : tie.Need-shared-slice-read-wide Inv-loop μ-loop
-shared-slice-read-wide c = search (needs, clause-indexes)
+shared-slice-read-wide c = search needs
 
 wide-requires : tie.Need-wide-requires Inv-loop μ-loop
-wide-requires c κs = search (needs, clause-indexes)
+wide-requires c κs = search needs
 
 mul-next : tie.Need-mul-next Inv-loop μ-loop
 mul-next c = search (needs, clause-indexes)
@@ -33,13 +33,13 @@ element-copy-out-next : tie.Need-element-copy-out-next Inv-loop μ-loop
 element-copy-out-next c = search (needs, clause-indexes)
 
 mul-next-2 : tie.Need-mul-next-2 Inv-loop μ-loop
-mul-next-2 c = search (needs, clause-indexes)
+mul-next-2 c = search needs
 
 element-write-next : tie.Need-element-write-next Inv-loop μ-loop
-element-write-next c = search (needs, clause-indexes)
+element-write-next c = search needs
 
 cast-first : tie.Need-cast-first Inv-loop μ-loop
-cast-first c = search (needs, clause-indexes)
+cast-first c = search needs
 
 mul-first : tie.Need-mul-first Inv-loop μ-loop
 mul-first c = search (needs, clause-indexes)
@@ -48,7 +48,7 @@ element-write-first : tie.Need-element-write-first Inv-loop μ-loop
 element-write-first c = search (needs, clause-indexes)
 
 loop-less : tie.Need-loop-less Inv-loop μ-loop
-loop-less c = search (needs, clause-indexes)
+loop-less c = search needs
 
 loop-again : tie.Need-loop-again Inv-loop μ-loop
 loop-again c = search (needs, clause-indexes)

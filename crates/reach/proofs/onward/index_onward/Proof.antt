@@ -15,16 +15,16 @@ loop-holds : tie.Need-loop-holds Inv-loop μ-loop
 loop-holds c = search (needs, atom-indexes)
 
 sub-q : tie.Need-sub-q Inv-loop μ-loop
-sub-q c = search (needs, atom-indexes)
+sub-q c = search needs
 
 enter-requires : tie.Need-enter-requires Inv-loop μ-loop
 enter-requires c κs = search (needs, atom-indexes)
 
 loop-less : tie.Need-loop-less Inv-loop μ-loop
-loop-less c = search (needs, atom-indexes)
+loop-less c = search needs
 
 loop-again : tie.Need-loop-again Inv-loop μ-loop
-loop-again c = search (needs, atom-indexes)
+loop-again c = search needs
 
 returns : tie.Need-returns Inv-loop μ-loop
 returns c = search (needs, atom-indexes)

@@ -17,28 +17,28 @@ loop-holds : tie.Need-loop-holds Inv-loop μ-loop
 loop-holds c = search (needs, sowings)
 
 mul-seed : tie.Need-mul-seed Inv-loop μ-loop
-mul-seed c = search (needs, sowings)
+mul-seed c = search needs
 
 shared-slice-read-seed : tie.Need-shared-slice-read-seed Inv-loop μ-loop
-shared-slice-read-seed c = search (needs, sowings)
+shared-slice-read-seed c = search needs
 
 mul-seed-2 : tie.Need-mul-seed-2 Inv-loop μ-loop
-mul-seed-2 c = search (needs, sowings)
+mul-seed-2 c = search needs
 
 shared-slice-read-seed-2 : tie.Need-shared-slice-read-seed-2 Inv-loop μ-loop
-shared-slice-read-seed-2 c = search (needs, sowings)
+shared-slice-read-seed-2 c = search needs
 
 seed-requires : tie.Need-seed-requires Inv-loop μ-loop
-seed-requires c κs = search (needs, sowings)
+seed-requires c κs = search needs
 
 take-requires : tie.Need-take-requires Inv-loop μ-loop
-take-requires c κs = search (needs, sowings)
+take-requires c κs = search needs
 
 add-p : tie.Need-add-p Inv-loop μ-loop
-add-p c = search (needs, sowings)
+add-p c = search needs
 
 loop-less : tie.Need-loop-less Inv-loop μ-loop
-loop-less c = search (needs, sowings)
+loop-less c = search needs
 
 loop-again : tie.Need-loop-again Inv-loop μ-loop
 loop-again c = search (needs, sowings)

@@ -5,7 +5,7 @@ use Rattle.reach.proofs.seeds.take.Statement.{statement}
 use Rattle.reach.proofs.seeds.take.Tie as tie
 
 mark-requires : tie.Need-mark-requires
-mark-requires c κs = search (needs, takings)
+mark-requires c κs = search needs
 
 returns : tie.Need-returns
 returns c = search (needs, takings)
