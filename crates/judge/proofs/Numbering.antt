@@ -56,7 +56,6 @@ module _ (kinds owners literals : List ℕ) (s : EdgesShaped kinds owners litera
   asked-levels = record {
     graph = rw part-long (s .graph);
     atoms = omega (arith, part-long, s .atoms);
-    edges = omega (arith, s .few);
   }
 
   pub levels-numbered : (v : List ℕ) (r : Numbering) → Numbers owners literals (take (length kinds - 0) old) v r → LevelsOf (HeldEdges kinds owners literals) r (v ++ drop (length kinds - 0) old)
