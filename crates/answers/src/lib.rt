@@ -1,4 +1,6 @@
 // What each call answers on an accepted table, from what was found in it: the tests that are left, in the page's order, and then the answer.
+#![tactic(auto)]
+
 pub mod looks; // hidden
 pub mod moves; // offer
 pub mod opens; // open

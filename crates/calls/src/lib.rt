@@ -1,4 +1,6 @@
 // What each call answers: definitions by cases in the order of the page's tests, and that they are the published semantics.
+#![tactic(auto)]
+
 use refusals::Refusal;
 use session::Session;
 

@@ -3,7 +3,7 @@ ghost use Rattle.std.specs.Prelude.{◌≡◌};
 ghost use Rattle.commands.specs.Texts.{same};
 ghost use Rattle.commands.specs.Commands.{other_command_of, command_of, is_unknown, fewest, most};
 
-#[derive(Drop)]
+#[derive(Clone, Copy)]
 pub enum Command {
     Table,
     Load,

@@ -6,7 +6,7 @@ ghost use Rattle.commands.specs.Faults.{is_nothing, first_of, what, error_texts}
 
 use lines::text::put_text;
 
-#[derive(Drop)]
+#[derive(Clone, Copy)]
 pub enum Fault {
     Nothing,
     Blanks,

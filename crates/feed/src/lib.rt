@@ -1,4 +1,6 @@
 // Lines from a descriptor, by way of lent room. A line with no room for its end is told once and skipped.
+#![tactic(auto)]
+
 pub mod file; // a file read whole
 mod reading; // one read from a descriptor
 
@@ -9,7 +11,7 @@ ghost use Rattle.feed.specs.Feed.{Held, until_end, told, told_last, new_feed, be
 
 use reading::read_more;
 
-#[derive(Drop)]
+#[derive(Clone, Copy)]
 pub enum Found {
     Line,
     Long,
@@ -19,7 +21,7 @@ pub enum Found {
 
 // Up to `have` the room was read. A line that was found lies from `start` to `end`; one that was not begins at `start` and has no end
 // before `end`, and `long` says that its beginning was dropped.
-#[derive(Drop)]
+#[derive(Clone, Copy)]
 pub struct Feed {
     pub found: Found,
     pub start: usize,

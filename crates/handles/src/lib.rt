@@ -1,5 +1,7 @@
 // Offer and play over the session itself: "The session record is one thing that each call moves on". Each is thin above the call that takes the record by
 // value, so that a refused call leaves the record as it was.
+#![tactic(auto)]
+
 ghost use Rattle.std.specs.Prelude.{◌≡◌};
 ghost use Rattle.rules.specs.Judged.{judge};
 ghost use Rattle.calls.specs.Calls.{offer, play};

@@ -1,4 +1,6 @@
 // The calls as C functions over numbers and byte slices, for a host that is not written in Rattle; host/embalume.h declares them.
+#![tactic(auto)]
+
 mod records; // records and positions in their byte form
 
 ghost use Rattle.std.specs.Prelude.{◌≡◌};

@@ -10,7 +10,7 @@ use super::kinds::{DOES, INIT, NEXT, ROLE, SEES, TRUE, one_of};
 use super::wide;
 
 // 6, 7 or 8.
-#[derive(Drop)]
+#[derive(Clone, Copy)]
 pub(super) enum ClauseRule {
     Role,
     Head,

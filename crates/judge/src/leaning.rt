@@ -10,7 +10,7 @@ use super::found::Found;
 use super::kinds::{DOES, GOAL, INIT, LEGAL, TERMINAL, TRUE, one_of};
 
 // 9 or 10.
-#[derive(Drop)]
+#[derive(Clone, Copy)]
 pub(super) enum DependenceRule {
     Init,
     Does,

@@ -1,4 +1,6 @@
 // The rules of a valid table on arrays: the first refusal of 6 to 12, or the levels of the atoms.
+#![tactic(auto)]
+
 ghost use Rattle.std.specs.Prelude.{◌≡◌};
 ghost use Rattle.gdl.specs.Flags.{blank};
 ghost use Rattle.rules.specs.Rules.{Ruled};

@@ -7,7 +7,7 @@ ghost use Rattle.lines.specs.Decimal.{is_digit, value_of, decimal_of, digit_of, 
 use crate::text::put_text;
 
 // What a word says: a number of at most 65,535, or no such number.
-#[derive(Drop)]
+#[derive(Clone, Copy)]
 pub enum Decimal {
     Value(u16),
     NotDecimal,

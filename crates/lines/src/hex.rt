@@ -8,7 +8,7 @@ ghost use Rattle.lines.specs.Hex.{nibble, is_nibble, is_dash, is_hex, bytes_of, 
 use crate::text::put_text;
 
 // What a word says: so many bytes, or none, or more than the room holds.
-#[derive(Drop)]
+#[derive(Clone, Copy)]
 pub enum Hex {
     Bytes(usize),
     NotHex,

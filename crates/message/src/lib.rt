@@ -1,4 +1,6 @@
 // The message of a seat, written into lent room in house numbers.
+#![tactic(auto)]
+
 ghost use Rattle.std.specs.Prelude.{◌≡◌, cond, [], ◌∷◌, ◌≤◌, eqb, length};
 ghost use Rattle.gdl.specs.Flags.{bit};
 ghost use Rattle.numbers.specs.Writing.{written};
@@ -82,7 +84,7 @@ fn put_counted_if(
 }
 
 // What a message says beside its lists, and how many percepts and moves there are.
-#[derive(Drop)]
+#[derive(Clone, Copy)]
 pub struct Sheet {
     pub seat: u16,
     pub round: u16,

@@ -1,4 +1,6 @@
 // House numbers: one to three bytes, seven bits each, lowest group first. Reading one at a place, and writing one there.
+#![tactic(auto)]
+
 ghost use Rattle.std.specs.Prelude.{◌≡◌, ◌+◌, ◌%◌};
 ghost use Rattle.numbers.specs.Number.{run_at, number_of_two, number_of_three, number_at};
 ghost use Rattle.numbers.specs.Writing.{number_bytes, written_at};
@@ -7,7 +9,7 @@ pub mod copying;
 
 // What stands at a place: a number with the place after it; a number that the input cuts off; a run of bytes that is not the
 // shortest form of its number; a run that says more than 65,535.
-#[derive(Drop)]
+#[derive(Clone, Copy)]
 pub enum Number {
     Read(u16, usize),
     Cut,

@@ -1,6 +1,8 @@
 // What reaches a seat: "the least set of atoms that holds every sees, legal and goal atom of the seat and the terminal atom; holds each
 // body atom of a clause whose head it holds; and, where it holds true(f), holds next(f) and init(f)", in
 // time linear in the clauses and atoms, and in the literals of what is reached.
+#![tactic(auto)]
+
 mod bodies;
 mod onward;
 mod seeds;

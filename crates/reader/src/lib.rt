@@ -1,4 +1,6 @@
 // A reading place in a table: it holds the lent table and its offset, and goes on from number to number, and so from record to record.
+#![tactic(auto)]
+
 ghost use Rattle.std.specs.Prelude.{◌≡◌};
 ghost use Rattle.reader.specs.Reading.{after, found_at, reader_at, read_next, clause_start};
 

@@ -1,5 +1,7 @@
 // The calls of the referee. Each tests the table first, then the record or position, then what the page lists; nothing is kept between calls.
 // The check answers the refusal alone, and the model call the refusal and the lent room.
+#![tactic(auto)]
+
 ghost use Rattle.std.specs.Prelude.{◌≡◌};
 ghost use Rattle.rules.specs.Judged.{judge};
 ghost use Rattle.calls.specs.Calls.{claim, open_game, offer, play, message};

@@ -1,4 +1,6 @@
 // The referee as a co-process: one command a line on standard input, one answer a line on standard output, until the input ends.
+#![tactic(auto)]
+
 ghost use Rattle.std.specs.Prelude.{length};
 ghost use Rattle.feed.specs.Feed.{Held};
 

@@ -1,9 +1,11 @@
 // The refusals of document 01's table, one case for each row, with its number and its place.
+#![tactic(auto)]
+
 ghost use Rattle.std.specs.Prelude.{◌≡◌};
 ghost use Rattle.refusals.specs.Refusal.{number_of, place_of};
 
 // A case holds its place where that is not always 0: a byte of the table, a clause, an atom or a seat, as the row says.
-#[derive(Drop)]
+#[derive(Clone, Copy)]
 pub enum Refusal {
     Success,
     InputEnds(usize),

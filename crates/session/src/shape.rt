@@ -8,7 +8,7 @@ ghost use Rattle.session.specs.Runs.{Bounds, RunIf, Fitting};
 use crate::Session;
 
 // How much of each thing a game has.
-#[derive(Drop)]
+#[derive(Clone, Copy)]
 pub struct Limits {
     pub seats: u16,
     pub fluents: u16,

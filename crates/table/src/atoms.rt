@@ -38,7 +38,7 @@ fn read_optional(s: &[u8], at: usize, end: u32) -> Field
     crate::fields::read_field(s, at, 0, end - 1)
 }
 
-#[derive(Drop)]
+#[derive(Clone, Copy)]
 pub struct AtomRecord {
     pub kind: u16,
     pub first: u16,

@@ -6,7 +6,7 @@ ghost use Rattle.table.specs.Says.{players_say, sizes_say, head_says, blank_head
 use crate::fields::Field;
 use refusals::Refusal;
 
-#[derive(Drop)]
+#[derive(Clone, Copy)]
 pub struct Players {
     pub claim: u16,
     pub seats: u16,
@@ -19,7 +19,7 @@ pub enum PlayersRead {
     Fault(Refusal),
 }
 
-#[derive(Drop)]
+#[derive(Clone, Copy)]
 pub struct Sizes {
     pub fluents: u16,
     pub moves: u16,
@@ -33,7 +33,7 @@ pub enum SizesRead {
     Fault(Refusal),
 }
 
-#[derive(Drop)]
+#[derive(Clone, Copy)]
 pub struct Header {
     pub players: Players,
     pub sizes: Sizes,

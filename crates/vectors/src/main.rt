@@ -1,5 +1,7 @@
 // Runs the command lines of one file through the interpreter, compares each answer with the same line of a second file, and tells how
 // many differ, with the first that does.
+#![tactic(auto)]
+
 mod report; // what is told
 mod run; // the two files, line by line
 

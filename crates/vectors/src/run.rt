@@ -30,7 +30,7 @@ fn first_bytes(room: &[u8], many: usize) -> &[u8] {
 }
 
 // The present line of each file.
-#[derive(Drop)]
+#[derive(Clone, Copy)]
 struct Pair {
     line: Feed,
     answer: Feed,

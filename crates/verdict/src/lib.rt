@@ -1,4 +1,6 @@
 // The verdict on a table, and what is true in a position of it: read, judged and modelled in one go, since every call asks the table anew.
+#![tactic(auto)]
+
 ghost use Rattle.std.specs.Prelude.{◌≡◌, List, ℕ, ◌≤◌, length};
 ghost use Rattle.gdl.specs.Game.{Game};
 ghost use Rattle.judge.specs.Judgement.{Judges};

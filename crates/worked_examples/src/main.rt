@@ -1,4 +1,6 @@
 // Runs the examples of document 01 through the calls, and tells for each whether the answer is the one that stands there.
+#![tactic(auto)]
+
 mod games; // the tables of the examples
 mod seats; // what seats read, and what is hidden from them
 mod tables; // what the check and the model say of a table
