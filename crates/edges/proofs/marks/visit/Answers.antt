@@ -1,0 +1,32 @@
+-- The uses of the node below k are done, and each next use has a higher number.
+use borrow.Author.Rules.{rules}
+use Prim.Native.Nat.{◌-◌}
+use Rattle.edges.proofs.Visiting.{visitings, visiting_more}
+use Rattle.edges.proofs.marks.visit.Goals as goal
+
+pub offset_bounds-queue-at : goal.offset_bounds-queue-at
+offset_bounds-queue-at c = search (rules, visitings)
+
+pub bounds-queue-at : goal.bounds-queue-at
+bounds-queue-at c = search (rules, visitings)
+
+pub offset_bounds-first-p : goal.offset_bounds-first-p
+offset_bounds-first-p c = search (rules, visitings)
+
+pub bounds-first-p : goal.bounds-first-p
+bounds-first-p c = search (rules, visitings)
+
+pub loop-k-init : goal.loop-k-init
+loop-k-init c = search (rules, visitings)
+
+pub mark-out-requires : goal.mark-out-requires
+mark-out-requires c = search (rules, visitings)
+
+pub loop-k-smaller : goal.loop-k-smaller
+loop-k-smaller c = search (rules, visitings)
+
+pub loop-k-preserved : goal.loop-k-preserved
+loop-k-preserved c = visiting_more _ _ _ _ _ _ _ _ c.way_told-1 _ c.wide-arg-2-1.ensures _ _ _ _ c.loop-k-test.invariant c.shared_slice_known-in-loop-k-1.true _ c.mark-arg-1.ensures _ _ _ c.way_told-in-loop-k-1.ensures _ c.wide-k-in-loop-k.ensures
+
+pub returns : goal.returns
+returns c = search (rules, visitings)

@@ -1,0 +1,13 @@
+-- Each arm is one case of the reading.
+use borrow.Author.Rules.{rules}
+use Rattle.interpreter.proofs.Taking.{takings}
+use Rattle.interpreter.proofs.tables.set_table.Goals as goal
+
+pub returns-in-Bytes : goal.returns-in-Bytes
+returns-in-Bytes c = search (rules, takings)
+
+pub returns-in-NotHex : goal.returns-in-NotHex
+returns-in-NotHex c = search (rules, takings)
+
+pub returns-in-TooMany : goal.returns-in-TooMany
+returns-in-TooMany c = search (rules, takings)

@@ -1,0 +1,12 @@
+-- The invariant: all bytes are digits exactly if all from i on are.
+use Prim.Native.Nat.{◌-◌}
+use lib.ListN.{length}
+use Rattle.lines.proofs.Testing.{Testing}
+use Rattle.lines.specs.Decimal.{is_digit}
+use Rattle.lines.proofs.decimal.every_digit.Given as goal
+
+abbrev pub invariant-loop-i : goal.invariant-loop-i
+invariant-loop-i l = Testing is_digit l.word l.i
+
+abbrev pub decreases-loop-i : goal.decreases-loop-i
+decreases-loop-i l = length l.word - l.i

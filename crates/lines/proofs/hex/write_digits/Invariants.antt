@@ -1,0 +1,11 @@
+-- The invariant: storing the digits of what is left gives the whole.
+use Prim.Native.Nat.{◌-◌}
+use lib.ListN.{length}
+use Rattle.lines.proofs.Pairing.{Encoding}
+use Rattle.lines.proofs.hex.write_digits.Given as goal
+
+abbrev pub invariant-loop-k : goal.invariant-loop-k
+invariant-loop-k l = Encoding l.bytes l.initial.room l.at l.room l.k
+
+abbrev pub decreases-loop-k : goal.decreases-loop-k
+decreases-loop-k l = length l.bytes - l.k

@@ -1,0 +1,11 @@
+-- The clauses of the head before c are done, and each next one has a higher number.
+use Prim.Native.Nat.{◌-◌}
+use lib.ListN.{length}
+use Rattle.reach.proofs.Bringing.{BodiesBrought}
+use Rattle.reach.proofs.bodies.bring_bodies.Given as goal
+
+abbrev pub invariant-loop-c : goal.invariant-loop-c
+invariant-loop-c l = BodiesBrought l.heads l.starts l.literals l.p l.initial.marks l.initial.queue l.n l.marks l.queue l.out l.c
+
+abbrev pub decreases-loop-c : goal.decreases-loop-c
+decreases-loop-c l = length l.heads - l.c

@@ -1,0 +1,19 @@
+-- Fluents, moves, percepts and atoms, each in its range.
+use borrow.Author.Rules.{rules}
+use Rattle.table.proofs.Readers.{size_laws}
+use Rattle.table.proofs.header.read_sizes.Goals as goal
+
+pub returns-in-Fault : goal.returns-in-Fault
+returns-in-Fault c = search (rules, size_laws)
+
+pub returns-in-Fault-read_field : goal.returns-in-Fault-read_field
+returns-in-Fault-read_field c = search (rules, size_laws)
+
+pub returns-in-Fault-read_field-2 : goal.returns-in-Fault-read_field-2
+returns-in-Fault-read_field-2 c = search (rules, size_laws)
+
+pub returns-in-Fault-read_field-3 : goal.returns-in-Fault-read_field-3
+returns-in-Fault-read_field-3 c = search (rules, size_laws)
+
+pub returns : goal.returns
+returns c = search (rules, size_laws)

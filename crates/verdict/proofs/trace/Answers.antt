@@ -1,0 +1,45 @@
+-- The answer of `weigh` says whether the table is accepted; if it is, its arrays are asked for the reach.
+use Rattle.verdict.proofs.Consulting.{says_unfit, says_fit, counts, traceable, fit_traced}
+use Rattle.verdict.proofs.trace.Goals as goal
+
+pub slice_bounds-reach_part-end-in-Accepted-2 : goal.slice_bounds-reach_part-end-in-Accepted-2
+slice_bounds-reach_part-end-in-Accepted-2 c =
+    let weigh = c.weigh in
+    let header = c.header-1 in
+    let fits = says_fit _ _ _ _ _ _ _ _ _ _ weigh.ensures _ _ _ header.given.1 in
+    (counts fits).heads_count
+
+pub slice_bounds-reach_part-end-in-Accepted-3 : goal.slice_bounds-reach_part-end-in-Accepted-3
+slice_bounds-reach_part-end-in-Accepted-3 c =
+    let weigh = c.weigh in
+    let header = c.header-1 in
+    let fits = says_fit _ _ _ _ _ _ _ _ _ _ weigh.ensures _ _ _ header.given.1 in
+    (counts fits).starts_count
+
+pub slice_bounds-reach_part-end-in-Accepted-4 : goal.slice_bounds-reach_part-end-in-Accepted-4
+slice_bounds-reach_part-end-in-Accepted-4 c =
+    let weigh = c.weigh in
+    let header = c.header-1 in
+    let fits = says_fit _ _ _ _ _ _ _ _ _ _ weigh.ensures _ _ _ header.given.1 in
+    (counts fits).literals_count
+
+pub reach_part-found-requires : goal.reach_part-found-requires
+reach_part-found-requires c =
+    let weigh = c.weigh in
+    let header = c.header-1 in
+    let fits = says_fit _ _ _ _ _ _ _ _ _ _ weigh.ensures _ _ _ header.given.1 in
+    traceable fits
+
+pub returns-in-Refused : goal.returns-in-Refused
+returns-in-Refused c =
+    let weigh = c.weigh in
+    let f = c.f-1 in
+    says_unfit _ _ _ _ _ _ _ _ _ _ weigh.ensures _ f.given.1
+
+pub returns-in-Accepted : goal.returns-in-Accepted
+returns-in-Accepted c =
+    let a = c.args in
+    let weigh = c.weigh in
+    let header = c.header-1 in
+    let fits = says_fit _ _ _ _ _ _ _ _ _ _ weigh.ensures _ _ _ header.given.1 in
+    fit_traced a.s.now fits _ _ c.reach_part-found.ensures
