@@ -40,11 +40,11 @@ module _ (σ : Session) (c : Consulted) (l : Limits) (h : Headed c l) (G : Game)
   moves_here = ap (λ (x : Limits). x.moves) here
 
   module _ (r : Bool) (er : (G : Game) → l ≡ limits_of G → r ≡ shaped G σ) where
-    pub misshapen : not r ≡ true → shaped G σ ≡ false
-    misshapen n = sym (er G here) ∙ not-true r n
+    pub misshapen : r ≡ false → shaped G σ ≡ false
+    misshapen n = sym (er G here) ∙ n
 
-    pub well_shaped : not r ≡ false → shaped G σ ≡ true
-    well_shaped n = sym (er G here) ∙ not-false r n
+    pub well_shaped : r ≡ true → shaped G σ ≡ true
+    well_shaped n = sym (er G here) ∙ n
 
   module _ (marks : List ℕ) (em : MarksIn c 8 1 marks) where
     end : eqb (get_or marks 0 0) 1 ≡ over G σ.position

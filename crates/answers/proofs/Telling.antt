@@ -41,20 +41,20 @@ module _ (c : Consulted) (l : Limits) (h : Headed c l) (pos ch room : List ℕ) 
     unfolding position_shaped
     position_here = ep ∙ ap (λ (n : ℕ). every (flag_fits (below n)) pos) fluents_here
 
-    pub position_out : not p ≡ true → (BadShape, room) ≡ truth (fit G) pos ch room
-    position_out n = model_bad_shape G pos ch room (rw (← position_here, not-true p n))
+    pub position_out : p ≡ false → (BadShape, room) ≡ truth (fit G) pos ch room
+    position_out n = model_bad_shape G pos ch room (rw (← position_here, n))
 
-    module _ (np : not p ≡ false) (q : Bool) (eq : q ≡ every (choice_within l.seats l.moves) ch) where
+    module _ (np : p ≡ true) (q : Bool) (eq : q ≡ every (choice_within l.seats l.moves) ch) where
       choices_here : q ≡ choices_shaped G ch
       unfolding choices_shaped
       choices_here = eq ∙ ap₂ (λ (r m : ℕ). every (choice_within r m) ch) seats_here moves_here
 
-      pub choices_out : not q ≡ true → (BadShape, room) ≡ truth (fit G) pos ch room
-      choices_out n = model_bad_shape G pos ch room (rw (← position_here, not-false p np, ← choices_here, not-true q n))
+      pub choices_out : q ≡ false → (BadShape, room) ≡ truth (fit G) pos ch room
+      choices_out n = model_bad_shape G pos ch room (rw (← position_here, np, ← choices_here, n))
 
-      module _ (nq : not q ≡ false) where
+      module _ (nq : q ≡ true) where
         good : (position_shaped G pos && choices_shaped G ch) ≡ true
-        good = rw (← position_here, not-false p np, ← choices_here, not-false q nq)
+        good = rw (← position_here, np, ← choices_here, nq)
 
         atoms_here : c.header.sizes.atoms ≡ length G.atoms
         atoms_here = ap (λ (x : Consulted). x.header.sizes.atoms) e

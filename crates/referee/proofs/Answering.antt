@@ -71,9 +71,12 @@ facts_same G pos pos' ch ch' e h = go G.atoms
     go [] = refl
     go (a ∷ l) = rw (e a.first, h a.first a.second, go l)
 
-empty_is : (G : Game) → model G (blank 512) (blank 8) ≡ model G [] []
+model_same : (G : Game) (pos pos' ch ch' : List ℕ) → facts G pos ch ≡ facts G pos' ch' → model G pos ch ≡ model G pos' ch'
 unfolding model
-empty_is G = rw (facts_same G (blank 512) [] (blank 8) [] nowhere idle)
+model_same G pos pos' ch ch' e = rw e
+
+empty_is : (G : Game) → model G (blank 512) (blank 8) ≡ model G [] []
+empty_is G = model_same G (blank 512) [] (blank 8) [] (facts_same G (blank 512) [] (blank 8) [] nowhere idle)
 
 module _ {v : Verdict} {c : Consulted} (pos ch : List ℕ) (a : Accepts v (λ G. model G pos ch) c) where
   pub unchosen : ch ≡ blank 8 → Accepts v (λ G. model G pos (blank 8)) c

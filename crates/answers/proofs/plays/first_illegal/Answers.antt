@@ -10,7 +10,7 @@ use Rattle.answers.proofs.Playing.{search_starts, search_stops, search_goes_on, 
 use Rattle.answers.proofs.plays.first_illegal.Goals as goal
 
 pub loop-s-init : goal.loop-s-init
-loop-s-init c = search_starts (wrongs c.args.t1 c.args.legal.now) c.args.seats
+loop-s-init c = search_starts (wrongs c.args.choices c.args.legal.now) c.args.seats
 
 pub bounds-choices-s : goal.bounds-choices-s
 bounds-choices-s c =
@@ -38,26 +38,26 @@ overflow_add-s c =
 
 pub bounds-legal-s : goal.bounds-legal-s
 bounds-legal-s c =
-    let pre = c.loop-s in
-    let loop = c.loop-s-test in
-    omega (arith, pre.some loop.s c.way_told-1.true, pre.within loop.s c.way_told-1.true, pre.few)
+    let pre = c.requires in
+    let loop = c.loop-s in
+    omega (arith, pre.some loop.s c.loop-s-test.true, pre.within loop.s c.loop-s-test.true, pre.few)
 
 pub returns-then-legal-s-ne1 : goal.returns-then-legal-s-ne1
 returns-then-legal-s-ne1 c =
-    let a = c.loop-s in
-    let loop = c.loop-s-test in
-    let loop-test = c.way_told-1 in
-    search_stops (wrongs a.t1 a.legal.now) a.seats loop.s loop.invariant loop-test.true (ap not (ne_eqb (get_or a.legal.now (loop.s * 256 + (get_or a.t1 loop.s 0 - 1)) 0) 1 c.if-legal-s-ne1.true))
+    let a = c.args in
+    let loop = c.loop-s in
+    let loop-test = c.loop-s-test in
+    search_stops (wrongs a.choices a.legal.now) a.seats loop.s loop.invariant loop-test.true (ap not (ne_eqb (get_or a.legal.now (loop.s * 256 + (get_or a.choices loop.s 0 - 1)) 0) 1 c.if-legal-s-ne1.true))
 
 pub loop-s-preserved : goal.loop-s-preserved
 loop-s-preserved c =
-    let a = c.loop-s in
-    let loop = c.loop-s-test in
-    let loop-test = c.way_told-1 in
-    search_goes_on (wrongs a.t1 a.legal.now) a.seats loop.s loop.invariant loop-test.true (ap not (eq-eqb (get_or a.legal.now (loop.s * 256 + (get_or a.t1 loop.s 0 - 1)) 0) 1 c.if-legal-s-ne1.false))
+    let a = c.args in
+    let loop = c.loop-s in
+    let loop-test = c.loop-s-test in
+    search_goes_on (wrongs a.choices a.legal.now) a.seats loop.s loop.invariant loop-test.true (ap not (eq-eqb (get_or a.legal.now (loop.s * 256 + (get_or a.choices loop.s 0 - 1)) 0) 1 c.if-legal-s-ne1.false))
 
 pub returns : goal.returns
 returns c =
     let a = c.args in
     let loop = c.loop-s in
-    search_ends (wrongs a.t1 a.legal.now) a.seats loop.s loop.invariant c.loop-s-test.false
+    search_ends (wrongs a.choices a.legal.now) a.seats loop.s loop.invariant c.loop-s-test.false
