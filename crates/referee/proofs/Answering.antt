@@ -1,13 +1,14 @@
 -- From what was found in a table to the call's answer: on a refused table the refusal, on an accepted one what `answers` says of its game.
 use mathlib.Core.Path.{◌≡◌, refl, sym, ap, subst, ◌∙◌}
 use mathlib.Core.List.{List, [], ◌∷◌, map}
+use lib.ListN.{length}
 use Prim.Native.Nat.{ℕ, suc}
 use lib.Dec.{eqb}
 use Rattle.refusals.specs.declared.Refusal.{Refusal}
 use Rattle.gdl.specs.Game.{Atom, Game}
 use Rattle.gdl.specs.Flags.{on, bit, blank}
 use Rattle.gdl.specs.Truth.{is_fact}
-use Rattle.gdl.specs.Computed.{did, facts, model, reach_of}
+use Rattle.gdl.specs.Computed.{did, facts, levels_of, look, model, reach_of, run}
 use Rattle.gdl.proofs.Walks.{zeros}
 use Rattle.table.specs.declared.header.Header.{Header}
 use Rattle.table.specs.Says.{blank_header}
@@ -73,7 +74,7 @@ facts_same G pos pos' ch ch' e h = go G.atoms
 
 model_same : (G : Game) (pos pos' ch ch' : List ℕ) → facts G pos ch ≡ facts G pos' ch' → model G pos ch ≡ model G pos' ch'
 unfolding model
-model_same G pos pos' ch ch' e = rw e
+model_same G pos pos' ch ch' e = ap (λ (x : List ℕ). run G.clauses (look (levels_of G)) x (suc (length G.atoms))) e
 
 empty_is : (G : Game) → model G (blank 512) (blank 8) ≡ model G [] []
 empty_is G = model_same G (blank 512) [] (blank 8) [] (facts_same G (blank 512) [] (blank 8) [] nowhere idle)
