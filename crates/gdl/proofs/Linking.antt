@@ -30,6 +30,7 @@ pub data Leads (G : Game) : ℕ → ℕ → Type 0 where
 -- ---- each step is a link
 
 body_in_lem : (h : ℕ) (b : List Literal) (rest : List Link) (x : Literal) → Memᴰ x b → Memᴰ (arrow h (atom_of x)) (body_links h b rest)
+body_in_lem h [] rest x m = elim m [ ]
 body_in_lem h (y ∷ b) rest x (mathlib.Core.List.Memᴰ.head e) = mathlib.Core.List.Memᴰ.head (ap (λ (w : Literal). arrow h (atom_of w)) e)
 body_in_lem h (y ∷ b) rest x (mathlib.Core.List.Memᴰ.tail m) = mathlib.Core.List.Memᴰ.tail (body_in_lem h b rest x m)
 

@@ -16,6 +16,7 @@ use Rattle.rules.specs.Judged.{disjoint, some_below}
 
 module _ {A : Type 0} (f : A → Bool) where
   pub some_make : (xs : List A) (x : A) → Memᴰ x xs → T (f x) → T (some f xs)
+  some_make [] x m t = elim m [ ]
   some_make (y ∷ ys) x (Memᴰ.head e) t = or_left (f y) (some f ys) (subst (λ z. T (f z)) e t)
   some_make (y ∷ ys) x (Memᴰ.tail m) t = or_right (f y) (some f ys) (some_make ys x m t)
 

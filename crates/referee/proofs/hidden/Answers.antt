@@ -7,22 +7,19 @@ pub hidden_fit-requires : goal.hidden_fit-requires
 hidden_fit-requires c =
     let a = c.args in
     let trace = c.trace in
-    let header = c.header-1 in
-    let fits = accepting _ _ _ _ _ _ _ trace.ensures _ header.given.1 in
+    let fits = accepting _ _ _ _ _ _ _ trace.ensures _ c.in-Accepted.is in
     traced a.table.now a.asking.0 fits
 
 pub returns-in-Refused : goal.returns-in-Refused
 returns-in-Refused c =
     let a = c.args in
     let trace = c.trace in
-    let refusal = c.refusal-1 in
-    let unfit = refusing _ _ _ _ _ _ _ trace.ensures _ refusal.given.1 in
+    let unfit = refusing _ _ _ _ _ _ _ trace.ensures _ c.in-Refused.is in
     hidden_kept a.table.now a.asking.0 a.moving.0 a.choice.0 _ (hidden_refused a.table.now _ unfit a.asking.0 a.moving.0 a.choice.0)
 
 pub returns-in-Accepted : goal.returns-in-Accepted
 returns-in-Accepted c =
     let a = c.args in
     let trace = c.trace in
-    let header = c.header-1 in
-    let fits = accepting _ _ _ _ _ _ _ trace.ensures _ header.given.1 in
+    let fits = accepting _ _ _ _ _ _ _ trace.ensures _ c.in-Accepted.is in
     hidden_kept a.table.now a.asking.0 a.moving.0 a.choice.0 _ (answered a.table.now _ fits (λ v. hidden_from v a.asking.0 a.moving.0 a.choice.0) c.hidden_fit.result c.hidden_fit.ensures)

@@ -7,8 +7,7 @@ pub message_fit-requires : goal.message_fit-requires
 message_fit-requires c =
     let a = c.args in
     let consult = c.consult in
-    let header = c.header-1 in
-    let fits = accepting _ _ _ _ _ _ _ consult.ensures _ header.given.1 in
+    let fits = accepting _ _ _ _ _ _ _ consult.ensures _ c.in-Accepted.is in
     let no_choices = c.no_choices-choices in
     asked a.table.now a.session.position _ (unchosen a.session.position _ fits no_choices.ensures)
 
@@ -16,16 +15,14 @@ pub returns-in-Refused : goal.returns-in-Refused
 returns-in-Refused c =
     let a = c.args in
     let consult = c.consult in
-    let refusal = c.refusal-1 in
-    let unfit = refusing _ _ _ _ _ _ _ consult.ensures _ refusal.given.1 in
+    let unfit = refusing _ _ _ _ _ _ _ consult.ensures _ c.in-Refused.is in
     message_refused a.table.now _ unfit a.session a.seat.0 a.room.now
 
 pub returns-in-Accepted : goal.returns-in-Accepted
 returns-in-Accepted c =
     let a = c.args in
     let consult = c.consult in
-    let header = c.header-1 in
-    let fits = accepting _ _ _ _ _ _ _ consult.ensures _ header.given.1 in
+    let fits = accepting _ _ _ _ _ _ _ consult.ensures _ c.in-Accepted.is in
     let no_choices = c.no_choices-choices in
     let message-fit = c.message_fit in
     answered a.table.now _ (unchosen a.session.position _ fits no_choices.ensures) (λ v. message v a.session a.seat.0 a.room.now) _ message-fit.ensures

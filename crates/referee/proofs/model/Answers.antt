@@ -6,23 +6,20 @@ pub model_fit-requires : goal.model_fit-requires
 model_fit-requires c =
     let a = c.args in
     let consult = c.consult in
-    let header = c.header-1 in
-    let fits = accepting _ _ _ _ _ _ _ consult.ensures _ header.given.1 in
+    let fits = accepting _ _ _ _ _ _ _ consult.ensures _ c.in-Accepted.is in
     asked a.table.now _ _ fits
 
 pub returns-in-Refused : goal.returns-in-Refused
 returns-in-Refused c =
     let a = c.args in
     let consult = c.consult in
-    let refusal = c.refusal-1 in
-    let unfit = refusing _ _ _ _ _ _ _ consult.ensures _ refusal.given.1 in
+    let unfit = refusing _ _ _ _ _ _ _ consult.ensures _ c.in-Refused.is in
     model_kept a.table.now _ _ a.room.now _ (model_refused a.table.now _ unfit _ _ a.room.now)
 
 pub returns-in-Accepted : goal.returns-in-Accepted
 returns-in-Accepted c =
     let a = c.args in
     let consult = c.consult in
-    let header = c.header-1 in
-    let fits = accepting _ _ _ _ _ _ _ consult.ensures _ header.given.1 in
+    let fits = accepting _ _ _ _ _ _ _ consult.ensures _ c.in-Accepted.is in
     let model-fit = c.model_fit in
     model_answered a.table.now _ _ a.room.now fits _ model-fit.ensures

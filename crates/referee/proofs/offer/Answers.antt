@@ -7,8 +7,7 @@ pub offer_fit-requires : goal.offer_fit-requires
 offer_fit-requires c =
     let a = c.args in
     let consult = c.consult in
-    let header = c.header-1 in
-    let fits = accepting _ _ _ _ _ _ _ consult.ensures _ header.given.1 in
+    let fits = accepting _ _ _ _ _ _ _ consult.ensures _ c.in-Accepted.is in
     let no_choices = c.no_choices-choices in
     asked a.table.now a.session.position _ (unchosen a.session.position _ fits no_choices.ensures)
 
@@ -16,15 +15,13 @@ pub returns-in-Refused : goal.returns-in-Refused
 returns-in-Refused c =
     let a = c.args in
     let consult = c.consult in
-    let refusal = c.refusal-1 in
-    let unfit = refusing _ _ _ _ _ _ _ consult.ensures _ refusal.given.1 in
+    let unfit = refusing _ _ _ _ _ _ _ consult.ensures _ c.in-Refused.is in
     offer_refused a.table.now _ unfit a.session a.seat.0 a.choice.0
 
 pub returns-in-Accepted : goal.returns-in-Accepted
 returns-in-Accepted c =
     let a = c.args in
     let consult = c.consult in
-    let header = c.header-1 in
-    let fits = accepting _ _ _ _ _ _ _ consult.ensures _ header.given.1 in
+    let fits = accepting _ _ _ _ _ _ _ consult.ensures _ c.in-Accepted.is in
     let no_choices = c.no_choices-choices in
     answered a.table.now _ (unchosen a.session.position _ fits no_choices.ensures) (λ v. offer v a.session a.seat.0 a.choice.0) c.offer_fit.result c.offer_fit.ensures

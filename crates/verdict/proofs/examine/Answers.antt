@@ -6,13 +6,11 @@ pub returns-in-Refused : goal.returns-in-Refused
 returns-in-Refused c =
     let a = c.args in
     let weigh = c.weigh in
-    let f = c.f-1 in
-    refused_examined a.s.now _ (says_unfit _ _ _ _ _ _ _ _ _ _ weigh.ensures _ f.given.1) _ c.unexamined.ensures
+    refused_examined a.s.now _ (says_unfit _ _ _ _ _ _ _ _ _ _ weigh.ensures _ c.in-Refused.is) _ c.unexamined.ensures
 
 pub returns-in-Accepted : goal.returns-in-Accepted
 returns-in-Accepted c =
     let a = c.args in
     let weigh = c.weigh in
-    let header = c.header-1 in
-    let fits = says_fit _ _ _ _ _ _ _ _ _ _ weigh.ensures _ _ _ header.given.1 in
+    let fits = says_fit _ _ _ _ _ _ _ _ _ _ weigh.ensures _ _ _ c.in-Accepted.is in
     fit_examined a.s.now fits

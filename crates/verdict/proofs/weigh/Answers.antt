@@ -8,8 +8,7 @@ judge_part-j-requires c =
     let a = c.args in
     let pre = c.requires in
     let read_table = c.read_table in
-    let header = c.header-1 in
-    let got = was_read a.s.now _ _ _ _ _ _ _ _ _ _ _ _ _ _ _ read_table.ensures pre _ _ header.given.1 in
+    let got = was_read a.s.now _ _ _ _ _ _ _ _ _ _ _ _ _ _ _ read_table.ensures pre _ _ c.in-Good.is in
     (judgeable got, pre.levels_blank)
 
 pub returns-then-number_of-ne0 : goal.returns-then-number_of-ne0
@@ -17,8 +16,7 @@ returns-then-number_of-ne0 c =
     let a = c.args in
     let pre = c.requires in
     let read_table = c.read_table in
-    let header = c.header-1 in
-    let got = was_read a.s.now _ _ _ _ _ _ _ _ _ _ _ _ _ _ _ read_table.ensures pre _ _ header.given.1 in
+    let got = was_read a.s.now _ _ _ _ _ _ _ _ _ _ _ _ _ _ _ read_table.ensures pre _ _ c.in-Good.is in
     let judge-part = c.judge_part-j in
     let number_of_lem = c.number_of in
     broken got judge-part.ensures (λ q. c.if-number_of-ne0.true (number_of_lem.ensures ∙ q))
@@ -27,16 +25,14 @@ pub returns-in-Fault : goal.returns-in-Fault
 returns-in-Fault c =
     let a = c.args in
     let read_table = c.read_table in
-    let f = c.f-1 in
-    unread a.s.now _ _ _ _ _ _ _ _ _ _ _ _ _ _ _ read_table.ensures _ f.given.1
+    unread a.s.now _ _ _ _ _ _ _ _ _ _ _ _ _ _ _ read_table.ensures _ c.in-Fault.is
 
 pub returns-else-number_of-ne0 : goal.returns-else-number_of-ne0
 returns-else-number_of-ne0 c =
     let a = c.args in
     let pre = c.requires in
     let read_table = c.read_table in
-    let header = c.header-1 in
-    let got = was_read a.s.now _ _ _ _ _ _ _ _ _ _ _ _ _ _ _ read_table.ensures pre _ _ header.given.1 in
+    let got = was_read a.s.now _ _ _ _ _ _ _ _ _ _ _ _ _ _ _ read_table.ensures pre _ _ c.in-Good.is in
     let judge-part = c.judge_part-j in
     let number_of_lem = c.number_of in
     kept got judge-part.ensures (sym number_of_lem.ensures ∙ c.if-number_of-ne0.false)

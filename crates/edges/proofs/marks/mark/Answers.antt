@@ -14,7 +14,7 @@ pub bounds-queue-n : goal.bounds-queue-n
 bounds-queue-n c = search (rules, markings)
 
 pub overflow_add-result : goal.overflow_add-result
-overflow_add-result c = omega (arith, has_room _ _ _ c.t7-1 c.way_told-2-1.false)
+overflow_add-result c = omega (arith, has_room _ _ _ c.requires c.if-marks-h-eq1.false)
 
 pub returns : goal.returns
 returns c = search (rules, markings)

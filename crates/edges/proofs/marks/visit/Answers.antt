@@ -26,7 +26,7 @@ pub loop-k-smaller : goal.loop-k-smaller
 loop-k-smaller c = search (rules, visitings)
 
 pub loop-k-preserved : goal.loop-k-preserved
-loop-k-preserved c = visiting_more _ _ _ _ _ _ _ _ c.way_told-1 _ c.wide-arg-2-1.ensures _ _ _ _ c.loop-k-test.invariant c.shared_slice_known-in-loop-k-1.true _ c.mark-arg-1.ensures _ _ _ c.way_told-in-loop-k-1.ensures _ c.wide-k-in-loop-k.ensures
+loop-k-preserved c = visiting_more _ _ _ _ _ _ _ _ c.requires _ c.wide-p.ensures _ _ _ _ c.loop-k.invariant c.loop-k-test.true _ c.wide-h.ensures _ _ _ c.mark-out.ensures _ c.wide-k-in-loop-k.ensures
 
 pub returns : goal.returns
 returns c = search (rules, visitings)

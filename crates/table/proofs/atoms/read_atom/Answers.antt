@@ -12,9 +12,9 @@ bounds-firsts-k c = search (rules, atom_laws)
 
 pub returns-in-Fault-read_optional : goal.returns-in-Fault-read_optional
 returns-in-Fault-read_optional c =
-    let a = c.shared_slice_known-1 in
-    let read-field = c.in-Value.ensures in
-    let i = c.known_told-1.given.1 in
+    let a = c.args in
+    let read-field = c.read_field.ensures in
+    let i = c.in-Value.is in
     let first = c.read_optional.ensures in
     no_first _ _ _ read-field a.firsts.now a.seconds.now _ i _ refl _ first _ c.in-Fault-read_optional.is
 
@@ -23,20 +23,20 @@ bounds-seconds-k c = search (rules, atom_laws)
 
 pub returns-in-Fault-read_optional-2 : goal.returns-in-Fault-read_optional-2
 returns-in-Fault-read_optional-2 c =
-    let a = c.read_field in
-    let read-field = c.in-Value.ensures in
-    let i = c.struct_known-1.given.1 in
-    let first = c.in-Value-read_optional.ensures in
-    let i2 = c.known_told-in-Value-read_optional-1.given.1 in
+    let a = c.args in
+    let read-field = c.read_field.ensures in
+    let i = c.in-Value.is in
+    let first = c.read_optional.ensures in
+    let i2 = c.in-Value-read_optional.is in
     let second = c.read_optional-2.ensures in
     no_second _ _ _ read-field a.firsts.now a.seconds.now _ i _ refl _ first _ i2 _ refl _ second _ c.in-Fault-read_optional-2.is
 
 pub returns : goal.returns
 returns c =
-    let a = c.read_field in
-    let read-field = c.in-Value.ensures in
-    let i = c.struct_known-1.given.1 in
-    let first = c.in-Value-read_optional.ensures in
-    let i2 = c.known_told-in-Value-read_optional-1.given.1 in
+    let a = c.args in
+    let read-field = c.read_field.ensures in
+    let i = c.in-Value.is in
+    let first = c.read_optional.ensures in
+    let i2 = c.in-Value-read_optional.is in
     let second = c.read_optional-2.ensures in
     all_atom _ _ _ read-field a.firsts.now a.seconds.now _ i _ refl _ first _ i2 _ refl _ second _ c.in-Value-read_optional-2.is

@@ -72,9 +72,9 @@ loop-k-smaller c = search (rules, readings)
 
 pub loop-k-preserved : goal.loop-k-preserved
 loop-k-preserved c =
-    let h = c.second_ends-second_ends.h in
-    let ends = both_ends h _ _ c.struct_known-1.ensures c.loop-k-test.ensures in
-    let read = c.known_told-in-Good-1.ensures h ends in
+    let h = c.args.h in
+    let ends = both_ends h _ _ c.first_ends-first_ends.ensures c.second_ends-second_ends.ensures in
+    let read = c.read_atom.ensures h ends in
     search (rules, readings, read)
 
 pub returns : goal.returns

@@ -20,7 +20,5 @@ pub returns-in-Good-read_game : goal.returns-in-Good-read_game
 returns-in-Good-read_game c =
     let if1 = c.if-s-gt65535 in
     let read-header = c.read_header in
-    let header = c.header-1 in
     let read-game = c.read_game in
-    let many = c.many-1 in
-    all_table _ _ _ _ _ _ _ _ _ _ _ _ _ _ _ if1.false _ read-header.ensures _ _ header.given.1 _ read-game.ensures _ many.given.1
+    all_table _ _ _ _ _ _ _ _ _ _ _ _ _ _ _ if1.false _ read-header.ensures _ _ c.in-Good.is _ read-game.ensures _ c.in-Good-read_game.is
