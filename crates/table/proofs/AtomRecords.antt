@@ -11,7 +11,6 @@ use Rattle.refusals.specs.declared.Refusal.{Refusal}
 use Rattle.refusals.specs.declared.Refusal.TheVariants.{NotAbove}
 use Rattle.gdl.specs.Game.{Atom}
 use Rattle.gdl.specs.Layout.{kinds_of, firsts_of, seconds_of}
-use Rattle.table.specs.Parse.{after}
 use Rattle.table.specs.Table.{atom, atoms_from}
 use Rattle.table.specs.Says.{atom_of, atom_says, key_of, WroteAtoms}
 use Rattle.table.specs.declared.header.Header.{Header}

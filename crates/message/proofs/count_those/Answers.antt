@@ -1,6 +1,5 @@
 -- Up to flag i the count is that of the flags passed.
 use Rattle.message.proofs.Lists.{countings}
-use Prim.Native.Nat.{◌-◌}
 use borrow.Author.Rules.{rules}
 use Rattle.message.proofs.count_those.Goals as goal
 

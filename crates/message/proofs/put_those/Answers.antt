@@ -1,6 +1,5 @@
 -- Up to flag i the numbers of the flags passed are written.
 use Rattle.message.proofs.Lists.{puttings}
-use Prim.Native.Nat.{◌-◌}
 use borrow.Author.Rules.{rules}
 use Rattle.message.proofs.put_those.Goals as goal
 

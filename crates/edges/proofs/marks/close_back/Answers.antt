@@ -1,5 +1,4 @@
 -- Each marked node is done or waits in the queue, and at most 1,024 are visited.
-use Prim.Native.Nat.{◌-◌}
 use Rattle.edges.proofs.Marking.{gathered_waits}
 use Rattle.edges.proofs.Closing.{closings}
 use borrow.Author.Rules.{rules}

@@ -1,5 +1,4 @@
 -- The marked nodes below p are queued, and nothing else.
-use Prim.Native.Nat.{◌-◌}
 use Rattle.edges.proofs.Marking.{gatherings}
 use borrow.Author.Rules.{rules}
 use Rattle.edges.proofs.marks.gather.Goals as goal

@@ -1,6 +1,5 @@
 -- The uses of the node below k are done, and each next use has a higher number.
 use borrow.Author.Rules.{rules}
-use Prim.Native.Nat.{◌-◌}
 use Rattle.edges.proofs.Visiting.{visitings, visiting_more}
 use Rattle.edges.proofs.marks.visit.Goals as goal
 

@@ -1,5 +1,4 @@
 -- The invariant: the digits left make the same value, cut off at 65,536, behind the number so far.
-use Prim.Native.Nat.{◌-◌}
 use borrow.Author.Rules.{rules}
 use Rattle.lines.proofs.Valuing.{values}
 use Rattle.lines.proofs.decimal.value_up_to.Goals as goal

@@ -1,5 +1,4 @@
 -- The invariant: all bytes are digits exactly if all from i on are.
-use Prim.Native.Nat.{◌-◌}
 use borrow.Author.Rules.{rules}
 use Rattle.lines.proofs.Pairing.{nibble_loops}
 use Rattle.lines.proofs.hex.every_nibble.Goals as goal

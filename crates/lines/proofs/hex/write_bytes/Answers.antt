@@ -1,5 +1,4 @@
 -- The invariant: storing the bytes of what is left gives the whole; a digit of a word that is hex counts below 16.
-use Prim.Native.Nat.{◌-◌}
 use borrow.Author.Rules.{rules}
 use Rattle.lines.proofs.Pairing.{smalls, decodings}
 use Rattle.lines.proofs.hex.write_bytes.Goals as goal

@@ -1,5 +1,4 @@
 -- The invariant: storing the digits of what is left gives the whole.
-use Prim.Native.Nat.{◌-◌}
 use native.Mathlib.Omega.{arith}
 use lib.ListN.{length-set}
 use borrow.Author.Rules.{rules}

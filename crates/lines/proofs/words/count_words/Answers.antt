@@ -1,5 +1,4 @@
 -- The invariant: the words counted and those that begin behind the next blank are all.
-use Prim.Native.Nat.{◌-◌}
 use borrow.Author.Rules.{rules}
 use Rattle.lines.proofs.Splitting.{counts}
 use Rattle.lines.proofs.words.count_words.Goals as goal

@@ -1,5 +1,4 @@
 -- The invariant: no word is empty exactly if none from the place on is.
-use Prim.Native.Nat.{◌-◌}
 use borrow.Author.Rules.{rules}
 use Rattle.lines.proofs.Splitting.{spacings}
 use Rattle.lines.proofs.words.well_spaced.Goals as goal

@@ -1,5 +1,4 @@
 -- The invariant: no blank stands between the place and the end reached.
-use Prim.Native.Nat.{◌-◌}
 use borrow.Author.Rules.{rules}
 use Rattle.lines.proofs.Splitting.{walks}
 use Rattle.lines.proofs.words.word_end.Goals as goal

@@ -1,5 +1,4 @@
 -- The invariant: the word that is sought is the (k - j)th of those from the place on.
-use Prim.Native.Nat.{◌-◌}
 use borrow.Author.Rules.{rules}
 use Rattle.lines.proofs.Splitting.{seeks}
 use Rattle.lines.proofs.words.word_start.Goals as goal

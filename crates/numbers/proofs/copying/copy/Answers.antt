@@ -1,6 +1,5 @@
 -- What is left of the part is stored further on; nothing is left at the end.
 use borrow.Author.Rules.{rules}
-use Prim.Native.Nat.{◌-◌}
 use Rattle.numbers.proofs.Storing.{copyings}
 use Rattle.numbers.proofs.copying.copy.Goals as goal
 

@@ -1,6 +1,5 @@
 -- What is left of the pairs is stored further on; at the start that is all of them, over a blank array of their number.
 use borrow.Author.Rules.{rules}
-use Prim.Native.Nat.{◌-◌}
 use Rattle.session.proofs.Recalling.{choosings}
 use Rattle.session.proofs.bytes.read_choices.Goals as goal
 

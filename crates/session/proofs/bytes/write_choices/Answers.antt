@@ -1,6 +1,5 @@
 -- What is left of the pairs is stored further on; nothing is left at the end.
 use borrow.Author.Rules.{rules}
-use Prim.Native.Nat.{◌-◌}
 use Rattle.session.proofs.Storing.{pairings}
 use Rattle.session.proofs.bytes.write_choices.Goals as goal
 

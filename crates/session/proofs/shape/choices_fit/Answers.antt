@@ -1,5 +1,4 @@
 -- Up to seat i every choice fits.
-use Prim.Native.Nat.{◌-◌}
 use borrow.Author.Rules.{rules}
 use Rattle.session.proofs.Fits.{testings}
 use Rattle.session.proofs.shape.choices_fit.Goals as goal

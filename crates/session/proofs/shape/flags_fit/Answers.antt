@@ -1,5 +1,4 @@
 -- The flags before i passed; each turn passes one or 64 more.
-use Prim.Native.Nat.{◌-◌}
 use borrow.Author.Rules.{rules}
 use Rattle.session.proofs.Fits.{testings}
 use Rattle.session.proofs.shape.flags_fit.Goals as goal

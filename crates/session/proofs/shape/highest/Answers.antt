@@ -1,5 +1,4 @@
 -- None of the flags before k is above the highest.
-use Prim.Native.Nat.{◌-◌}
 use borrow.Author.Rules.{rules}
 use Rattle.session.proofs.Fits.{bounding}
 use Rattle.session.proofs.shape.highest.Goals as goal

@@ -1,5 +1,4 @@
 -- Up to record k the arrays hold the atoms read, each above the one before.
-use Prim.Native.Nat.{◌-◌}
 use borrow.Author.Rules.{rules}
 use Rattle.table.proofs.Readers.{both_ends}
 use Rattle.table.proofs.AtomRecords.{readings}

@@ -1,5 +1,4 @@
 -- Up to literal k the owners are set.
-use Prim.Native.Nat.{◌-◌}
 use borrow.Author.Rules.{rules}
 use Rattle.table.proofs.ClauseRecords.{ownings}
 use Rattle.table.proofs.clauses.own.Goals as goal

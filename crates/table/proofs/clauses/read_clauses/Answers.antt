@@ -1,5 +1,4 @@
 -- Up to record k the arrays hold the clauses read.
-use Prim.Native.Nat.{◌-◌}
 use borrow.Author.Rules.{rules}
 use Rattle.table.proofs.ClauseRecords.{layings, few}
 use Rattle.table.proofs.clauses.read_clauses.Goals as goal

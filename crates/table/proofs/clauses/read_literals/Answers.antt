@@ -1,5 +1,4 @@
 -- Up to literal k the room holds the literals read.
-use Prim.Native.Nat.{◌-◌}
 use borrow.Author.Rules.{rules}
 use Rattle.table.proofs.ClauseRecords.{fillings}
 use Rattle.table.proofs.clauses.read_literals.Goals as goal

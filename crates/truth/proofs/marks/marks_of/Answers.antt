@@ -1,6 +1,5 @@
 -- Up to atom i the marks are those of the atoms passed.
 use Rattle.truth.proofs.Marked.{markings}
-use Prim.Native.Nat.{◌-◌}
 use borrow.Author.Rules.{rules}
 use Rattle.truth.proofs.marks.marks_of.Goals as goal
 
