@@ -1,5 +1,4 @@
 -- Each marked atom is done or waits in the queue, and at most 1,024 are visited.
-use Prim.Native.Nat.{◌-◌}
 use Rattle.reach.proofs.Reached.{followings}
 use borrow.Author.Rules.{rules}
 use Rattle.reach.proofs.follow.Goals as goal

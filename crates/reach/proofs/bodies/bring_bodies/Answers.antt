@@ -1,5 +1,4 @@
 -- The clauses of the head before c are done, and each next one has a higher number.
-use Prim.Native.Nat.{◌-◌}
 use Rattle.reach.proofs.Bringing.{bodies_rules}
 use borrow.Author.Rules.{rules}
 use Rattle.reach.proofs.bodies.bring_bodies.Goals as goal

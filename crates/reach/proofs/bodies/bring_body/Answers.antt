@@ -1,5 +1,4 @@
 -- The atoms of the body before place k are marked.
-use Prim.Native.Nat.{◌-◌}
 use Rattle.reach.proofs.Bringing.{body_rules, body_more}
 use borrow.Author.Rules.{rules}
 use Rattle.reach.proofs.bodies.bring_body.Goals as goal

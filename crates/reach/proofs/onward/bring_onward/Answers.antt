@@ -1,5 +1,4 @@
 -- The atoms of the fluent before q are marked, and each next one has a higher number.
-use Prim.Native.Nat.{◌-◌}
 use Rattle.reach.proofs.Bringing.{onward_rules}
 use borrow.Author.Rules.{rules}
 use Rattle.reach.proofs.onward.bring_onward.Goals as goal

@@ -1,5 +1,4 @@
 -- The atoms passed have their marks, and the rest have none.
-use Prim.Native.Nat.{◌-◌}
 use Rattle.reach.proofs.Seeding.{sowings}
 use borrow.Author.Rules.{rules}
 use Rattle.reach.proofs.seeds.sow.Goals as goal
