@@ -5,6 +5,9 @@ ghost use Rattle.feed.specs.File.{is_ascii, filled, Loads};
 
 use crate::reading::{Got, read_more};
 use lines::text::put_text;
+use std::fs;
+use std::io::Read;
+use std::rt::Files;
 
 #[derive(Drop)]
 pub enum Loaded {
@@ -13,7 +16,7 @@ pub enum Loaded {
     TooMany,
 }
 
-// Whether a name has no byte above 127; `os` itself refuses a byte 0.
+// Whether a name has no byte above 127; the library itself refuses a byte 0.
 fn is_ascii(name: &[u8]) -> bool
     ensures { result ≡ every is_ascii name.now }
 {
@@ -28,12 +31,12 @@ fn is_ascii(name: &[u8]) -> bool
 }
 
 // Reads until the room is full, the file ends or a read fails.
-fn read_whole(fd: i32, room: &mut [u8]) -> Got
+fn read_whole<R: Read>(reader: &mut R, room: &mut [u8]) -> Got
     ensures { result.have ≤ length room.old }
 {
     let mut have: usize = 0;
     while have < room.len() {
-        let got = read_more(fd, room, have);
+        let got = read_more(reader, room, have);
         if got.have == have {
             return got;
         }
@@ -60,19 +63,20 @@ fn fill(bytes: &[u8], room: &mut [u8]) -> Loaded
 }
 
 // Puts the bytes of a file, at most 70,000, at the front of the room, which stays as it was if they cannot be had or do not fit.
-pub fn load(name: &[u8], room: &mut [u8]) -> Loaded
+pub fn load<F: Files>(files: &F, name: &[u8], room: &mut [u8]) -> Loaded
     ensures { Loads room.old (result, room.new) }
 {
     if !is_ascii(name) {
         return Loaded::NoFile;
     }
-    let fd = os::open_read(name);
-    if fd < 0 {
+    let Ok(path) = str::from_utf8(name) else {
         return Loaded::NoFile;
-    }
+    };
+    let Ok(mut file) = fs::open(files, path) else {
+        return Loaded::NoFile;
+    };
     let mut bytes = [0u8; 70001];
-    let got = read_whole(fd, &mut bytes);
-    libc::close(fd);
+    let got = read_whole(&mut file, &mut bytes);
     if got.failed {
         return Loaded::NoFile;
     }

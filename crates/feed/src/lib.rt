@@ -1,8 +1,8 @@
-// Lines from a descriptor, by way of lent room. A line with no room for its end is told once and skipped.
+// Lines from a reader, by way of lent room. A line with no room for its end is told once and skipped.
 #![tactic(auto)]
 
 pub mod file; // a file read whole
-mod reading; // one read from a descriptor
+mod reading; // one read from a reader
 
 ghost use Rattle.std.specs.Prelude.{ℕ, ◌+◌, ◌-◌, ◌≤◌, ◌≡◌, length};
 ghost use Rattle.std.proofs.lemmas.List.Edits.{sets};
@@ -10,6 +10,7 @@ ghost use Rattle.std.proofs.Math.Seq.{slice};
 ghost use Rattle.feed.specs.Feed.{Held, until_end, told, told_last, new_feed, behind};
 
 use reading::read_more;
+use std::io::Read;
 
 #[derive(Clone, Copy)]
 pub enum Found {
@@ -97,7 +98,7 @@ fn told_last(left: usize, long: bool) -> Found
 }
 
 // Looks for the line's end, and where it is not there yet reads once.
-fn step(fd: i32, room: &mut [u8], feed: Feed) -> Feed
+fn step<R: Read>(reader: &mut R, room: &mut [u8], feed: Feed) -> Feed
     requires { Held (length room.old) feed }
     ensures { Held (length room.old) result }
 {
@@ -122,7 +123,7 @@ fn step(fd: i32, room: &mut [u8], feed: Feed) -> Feed
             long: true,
         };
     }
-    let got = read_more(fd, room, left);
+    let got = read_more(reader, room, left);
     if got.have == left {
         return Feed {
             found: told_last(left, feed.long),
@@ -165,14 +166,14 @@ fn behind(feed: Feed) -> Feed
 }
 
 // The next line. Nothing says that a line ends, so the turns are counted down from a number that no run uses up.
-pub fn next_line(fd: i32, room: &mut [u8], feed: Feed) -> Feed
+pub fn next_line<R: Read>(reader: &mut R, room: &mut [u8], feed: Feed) -> Feed
     requires { Held (length room.old) feed }
     ensures { Held (length room.old) result }
 {
     let mut next = behind(feed);
     let mut turns = u64::MAX;
     while turns > 0 {
-        next = step(fd, room, next);
+        next = step(reader, room, next);
         let found = next.found;
         let Found::More = found else {
             return next;

@@ -1,5 +1,7 @@
-// One read from a descriptor.
+// One read.
 ghost use Rattle.std.specs.Prelude.{◌≤◌, length};
+
+use std::io::Read;
 
 // How many bytes there are after a read, and whether it failed.
 #[derive(Drop)]
@@ -9,15 +11,15 @@ pub struct Got {
 }
 
 // Reads once into the free room behind what is there.
-pub fn read_more(fd: i32, room: &mut [u8], have: usize) -> Got
+pub fn read_more<R: Read>(reader: &mut R, room: &mut [u8], have: usize) -> Got
     requires { have ≤ length room.old }
     ensures { (have ≤ result.have) × (result.have ≤ length room.old) }
 {
-    let part = &mut room[have..];
-    let got = libc::read(fd, part);
-    let n = io::count(got, part);
-    Got {
-        have: have + n,
-        failed: got < 0,
+    match reader.read(&mut room[have..]) {
+        Ok(n) => Got {
+            have: have + n,
+            failed: false,
+        },
+        Err(_) => Got { have, failed: true },
     }
 }

@@ -13,6 +13,7 @@ use feed::{Feed, Found};
 use lines::words::{count_words, well_spaced, word};
 use session::Session;
 use session::bytes::blank_session;
+use std::rt::Files;
 
 // How much of the table's room is the current table, and the current record.
 #[derive(Drop)]
@@ -104,7 +105,8 @@ fn fault_in(line: &[u8], command: Command) -> Fault
 }
 
 // The answer to a command whose words are as many as they are to be.
-fn answer_command(
+fn answer_command<F: Files>(
+    files: &F,
     line: &[u8],
     command: Command,
     table: &mut [u8],
@@ -117,7 +119,7 @@ fn answer_command(
     let size = desk.table;
     match command {
         Command::Table => taken(desk, set_table(word(line, 1), table, size, room)),
-        Command::Load => taken(desk, load_table(word(line, 1), table, size, room)),
+        Command::Load => taken(desk, load_table(files, word(line, 1), table, size, room)),
         Command::Check => said(desk, looks::check(table_in(table, size), room)),
         Command::Claim => said(desk, looks::claim(table_in(table, size), room)),
         Command::Open => turned(desk, records::open(table_in(table, size), room)),
@@ -139,7 +141,13 @@ fn answer_command(
 }
 
 // The answer to a line without its end, written at the front of the room.
-pub fn answer(line: &[u8], table: &mut [u8], desk: Desk, room: &mut [u8]) -> Answered
+pub fn answer<F: Files>(
+    files: &F,
+    line: &[u8],
+    table: &mut [u8],
+    desk: Desk,
+    room: &mut [u8],
+) -> Answered
     ensures { Answers (LineMeant line.now table.old desk) room.old result table.new room.new }
 {
     let command = command_of(word(line, 0));
@@ -147,11 +155,12 @@ pub fn answer(line: &[u8], table: &mut [u8], desk: Desk, room: &mut [u8]) -> Ans
     if !is_nothing(fault) {
         return said(desk, put_fault(room, fault));
     }
-    answer_command(line, command, table, desk, room)
+    answer_command(files, line, command, table, desk, room)
 }
 
 // The answer to what a feed has found in its room.
-pub fn answer_found(
+pub fn answer_found<F: Files>(
+    files: &F,
     lines: &[u8],
     feed: Feed,
     table: &mut [u8],
@@ -165,7 +174,7 @@ pub fn answer_found(
     let start = feed.start;
     let end = feed.end;
     match found {
-        Found::Line => answer(&lines[start..end], table, desk, room),
+        Found::Line => answer(files, &lines[start..end], table, desk, room),
         Found::Long => said(desk, put_fault(room, Fault::LongLine)),
         Found::Nothing => said(desk, 0),
         Found::More => said(desk, 0),

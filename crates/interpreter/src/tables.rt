@@ -7,6 +7,7 @@ use commands::fault::{Fault, put_fault};
 use commands::reply::put_ok;
 use feed::file::{Loaded, load};
 use lines::hex::{Hex, read_hex};
+use std::rt::Files;
 
 // How long the table is after a command, and how long the answer.
 #[derive(Drop)]
@@ -40,10 +41,16 @@ pub fn set_table(bytes: &[u8], table: &mut [u8], before: usize, room: &mut [u8])
     }
 }
 
-pub fn load_table(name: &[u8], table: &mut [u8], before: usize, room: &mut [u8]) -> Taken
+pub fn load_table<F: Files>(
+    files: &F,
+    name: &[u8],
+    table: &mut [u8],
+    before: usize,
+    room: &mut [u8],
+) -> Taken
     ensures { FileTaken before table.old room.old table.new (result, room.new) }
 {
-    match load(name, table) {
+    match load(files, name, table) {
         Loaded::Bytes(length) => accepted(room, length),
         Loaded::NoFile => refused(room, before, Fault::NoFile),
         Loaded::TooMany => refused(room, before, Fault::TableBytes),

@@ -7,14 +7,16 @@ ghost use Rattle.feed.specs.Feed.{Held};
 use feed::{Feed, Found, new_feed, next_line};
 use interpreter::desk::{Desk, answer_found, new_desk};
 use lines::text::put_text;
+use std::io::{Read, Write};
+use std::rt::Files;
 
 // Writes an answer and its line end at once, and says whether that was done.
-fn write_line(room: &mut [u8], length: usize) -> bool {
+fn write_line<W: Write>(output: &mut W, room: &mut [u8], length: usize) -> bool {
     let end = put_text(room, length, b"\n");
     if room.len() < end {
         return false;
     }
-    io::write_all(1, &room[0..end])
+    output.write_all(&room[0..end]).is_ok()
 }
 
 // What is current after an answer, and whether there is more to answer.
@@ -24,29 +26,44 @@ struct Served {
     more: bool,
 }
 
-fn reply(lines: &[u8], feed: Feed, table: &mut [u8], desk: Desk, room: &mut [u8]) -> Served
+fn reply<F: Files, W: Write>(
+    files: &F,
+    output: &mut W,
+    lines: &[u8],
+    feed: Feed,
+    table: &mut [u8],
+    desk: Desk,
+    room: &mut [u8],
+) -> Served
     requires { Held (length lines.now) feed }
 {
     let found = feed.found;
     if let Found::Nothing = found {
         return Served { desk, more: false };
     }
-    let answered = answer_found(lines, feed, table, desk, room);
+    let answered = answer_found(files, lines, feed, table, desk, room);
     let now = answered.desk;
     Served {
         desk: now,
-        more: write_line(room, answered.length),
+        more: write_line(output, room, answered.length),
     }
 }
 
 // Nothing says that the input ends, so the turns are counted down from a number that no run uses up.
-fn serve(lines: &mut [u8], table: &mut [u8], room: &mut [u8]) {
+fn serve<F: Files, R: Read, W: Write>(
+    files: &F,
+    input: &mut R,
+    output: &mut W,
+    lines: &mut [u8],
+    table: &mut [u8],
+    room: &mut [u8],
+) {
     let mut feed = new_feed();
     let mut desk = new_desk();
     let mut turns = u64::MAX;
     while turns > 0 {
-        feed = next_line(0, lines, feed);
-        let served = reply(lines, feed, table, desk, room);
+        feed = next_line(input, lines, feed);
+        let served = reply(files, output, lines, feed, table, desk, room);
         if !served.more {
             return;
         }
@@ -57,9 +74,18 @@ fn serve(lines: &mut [u8], table: &mut [u8], room: &mut [u8]) {
 }
 
 // The longest line is a table of 70,000 bytes with its command and its line end; the longest answer is a record.
-fn main() {
+fn main(rt: HostRuntime) {
+    let mut input = rt.stdin();
+    let mut output = rt.stdout();
     let mut lines = [0u8; 140007];
     let mut table = [0u8; 70000];
     let mut room = [0u8; 8192];
-    serve(&mut lines, &mut table, &mut room);
+    serve(
+        &rt,
+        &mut input,
+        &mut output,
+        &mut lines,
+        &mut table,
+        &mut room,
+    );
 }

@@ -7,28 +7,37 @@ mod run; // the two files, line by line
 
 use report::write_tally;
 use run::run_files;
+use std::env::Env;
+use std::fs;
+use std::rt::Files;
 
-// Opens the file that an argument names; below 0 where there is none.
-fn open_argument(i: usize) -> i32 {
-    let mut path = io::buffer();
-    let length = os::arg(i, &mut path);
-    let fd = os::open_read(&path[..length]);
-    if fd < 0 {
-        os::fail(&path[..length]);
+// Opens the file that an argument names; none where it cannot be opened, which is told.
+fn open_argument<R: Env + Files + Eprint>(rt: &R, i: usize) -> Option<R::File> {
+    let mut path = [0u8; 4096];
+    let length = rt.arg(i, &mut path).unwrap_or(0);
+    let Ok(name) = str::from_utf8(&path[..length]) else {
+        let _ = eprintln!(rt; "argument {i} is not text");
+        return None;
+    };
+    match fs::open(rt, name) {
+        Ok(file) => Some(file),
+        Err(error) => {
+            let _ = eprintln!(rt; "{name}: {error}");
+            None
+        }
     }
-    fd
 }
 
-fn main() {
-    let lines = open_argument(1);
-    let answers = open_argument(2);
-    if lines < 0 {
+fn main(rt: HostRuntime) {
+    let lines = open_argument(&rt, 1);
+    let answers = open_argument(&rt, 2);
+    let Some(mut lines) = lines else {
         return;
-    }
-    if answers < 0 {
+    };
+    let Some(mut answers) = answers else {
         return;
-    }
-    write_tally(run_files(lines, answers));
-    libc::close(lines);
-    libc::close(answers);
+    };
+    let mut output = rt.stdout();
+    let tally = run_files(&rt, &mut output, &mut lines, &mut answers);
+    write_tally(&mut output, tally);
 }

@@ -1,4 +1,6 @@
 // What is told: how many lines were compared, how many answers differ, and the first that does.
+use std::io::Write;
+
 #[derive(Drop)]
 pub struct Tally {
     pub lines: u64,
@@ -12,14 +14,21 @@ fn one_more(n: u64) -> u64 {
     n
 }
 
-fn write_named(name: &[u8], text: &[u8]) {
-    io::write_all(1, name);
-    io::write_all(1, text);
-    io::write_all(1, b"\n");
+// That a write fails changes nothing of the count.
+fn write_named<W: Write>(output: &mut W, name: &[u8], text: &[u8]) {
+    let _ = output.write_all(name);
+    let _ = output.write_all(text);
+    let _ = output.write_all(b"\n");
 }
 
 // Counts a line, and shows it if its answer is the first that differs.
-pub fn judge(tally: Tally, line: &[u8], expected: &[u8], answer: &[u8]) -> Tally {
+pub fn judge<W: Write>(
+    output: &mut W,
+    tally: Tally,
+    line: &[u8],
+    expected: &[u8],
+    answer: &[u8],
+) -> Tally {
     let lines = one_more(tally.lines);
     if check::same(expected, answer) {
         return Tally {
@@ -28,9 +37,9 @@ pub fn judge(tally: Tally, line: &[u8], expected: &[u8], answer: &[u8]) -> Tally
         };
     }
     if tally.differ == 0 {
-        write_named(b"line: ", line);
-        write_named(b"expected: ", expected);
-        write_named(b"answer: ", answer);
+        write_named(output, b"line: ", line);
+        write_named(output, b"expected: ", expected);
+        write_named(output, b"answer: ", answer);
     }
     Tally {
         lines,
@@ -38,9 +47,8 @@ pub fn judge(tally: Tally, line: &[u8], expected: &[u8], answer: &[u8]) -> Tally
     }
 }
 
-pub fn write_tally(tally: Tally) {
-    io::print_decimal(1, tally.lines);
-    io::write_all(1, b" lines, ");
-    io::print_decimal(1, tally.differ);
-    io::write_all(1, b" differ\n");
+pub fn write_tally<W: Write>(output: &mut W, tally: Tally) {
+    let lines = tally.lines;
+    let differ = tally.differ;
+    let _ = writeln!(output, "{lines} lines, {differ} differ");
 }

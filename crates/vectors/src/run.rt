@@ -5,6 +5,8 @@ ghost use Rattle.feed.specs.Feed.{Held};
 use crate::report::{Tally, judge};
 use feed::{Feed, Found, new_feed, next_line};
 use interpreter::desk::{Desk, answer_found, new_desk};
+use std::io::{Read, Write};
+use std::rt::Files;
 
 // What is current after a line, and the count so far.
 #[derive(Drop)]
@@ -51,7 +53,13 @@ fn is_left(pair: Pair) -> bool {
     false
 }
 
-fn next_pair(from: i32, to: i32, lines: &mut [u8], answers: &mut [u8], pair: Pair) -> Pair
+fn next_pair<R: Read>(
+    from: &mut R,
+    to: &mut R,
+    lines: &mut [u8],
+    answers: &mut [u8],
+    pair: Pair,
+) -> Pair
     requires { Held (length lines.old) pair.line × Held (length answers.old) pair.answer }
     ensures { Held (length lines.old) result.line × Held (length answers.old) result.answer }
 {
@@ -64,7 +72,9 @@ fn next_pair(from: i32, to: i32, lines: &mut [u8], answers: &mut [u8], pair: Pai
 }
 
 // Answers a line and compares the answer.
-fn compare(
+fn compare<F: Files, W: Write>(
+    files: &F,
+    output: &mut W,
     lines: &[u8],
     answers: &[u8],
     pair: Pair,
@@ -78,11 +88,12 @@ fn compare(
     let answer = pair.answer;
     let desk = state.desk;
     let tally = state.tally;
-    let answered = answer_found(lines, line, table, desk, room);
+    let answered = answer_found(files, lines, line, table, desk, room);
     let after = answered.desk;
     State {
         desk: after,
         tally: judge(
+            output,
             tally,
             line_of(lines, line),
             line_of(answers, answer),
@@ -117,9 +128,11 @@ fn new_run() -> Run
 }
 
 // One line of each file, if either has one left.
-fn turn(
-    from: i32,
-    to: i32,
+fn turn<F: Files, R: Read, W: Write>(
+    files: &F,
+    output: &mut W,
+    from: &mut R,
+    to: &mut R,
     lines: &mut [u8],
     answers: &mut [u8],
     table: &mut [u8],
@@ -141,7 +154,7 @@ fn turn(
     }
     Run {
         pair,
-        state: compare(lines, answers, pair, table, room, state),
+        state: compare(files, output, lines, answers, pair, table, room, state),
         more: true,
     }
 }
@@ -152,9 +165,11 @@ fn tally_of(run: Run) -> Tally {
 }
 
 // Nothing says that a file ends, so the turns are counted down from a number that no run uses up.
-fn run_lines(
-    from: i32,
-    to: i32,
+fn run_lines<F: Files, R: Read, W: Write>(
+    files: &F,
+    output: &mut W,
+    from: &mut R,
+    to: &mut R,
     lines: &mut [u8],
     answers: &mut [u8],
     table: &mut [u8],
@@ -163,7 +178,7 @@ fn run_lines(
     let mut run = new_run();
     let mut turns = u64::MAX;
     while turns > 0 {
-        run = turn(from, to, lines, answers, table, room, run);
+        run = turn(files, output, from, to, lines, answers, table, room, run);
         if !run.more {
             return tally_of(run);
         }
@@ -172,12 +187,19 @@ fn run_lines(
     tally_of(run)
 }
 
-pub fn run_files(lines: i32, answers: i32) -> Tally {
+pub fn run_files<F: Files, R: Read, W: Write>(
+    files: &F,
+    output: &mut W,
+    lines: &mut R,
+    answers: &mut R,
+) -> Tally {
     let mut line_room = [0u8; 140007];
     let mut answer_room = [0u8; 8192];
     let mut table = [0u8; 70000];
     let mut room = [0u8; 8192];
     run_lines(
+        files,
+        output,
         lines,
         answers,
         &mut line_room,

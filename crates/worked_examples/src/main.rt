@@ -7,15 +7,16 @@ mod tables; // what the check and the model say of a table
 
 use games::{LEGAL_BY_DOES, ONE_BYTE_MORE, P_IF_NOT_P, P_IF_NOT_Q, P_IF_P, PENNY, SMALLEST};
 use seats::{answers_for_both, opened, played, reads};
+use std::io::Write;
 use tables::{is_accepted, is_flagged, is_numbered, is_refused};
 
-// Writes an example and whether it came out right.
-fn tell(example: &[u8], right: bool) {
-    io::write_all(1, example);
+// Writes an example and whether it came out right. That a write fails changes nothing.
+fn tell<W: Write>(output: &mut W, example: &[u8], right: bool) {
+    let _ = output.write_all(example);
     if right {
-        io::write_all(1, b": ok\n");
+        let _ = output.write_all(b": ok\n");
     } else {
-        io::write_all(1, b": NOT ok\n");
+        let _ = output.write_all(b": NOT ok\n");
     }
 }
 
@@ -27,53 +28,75 @@ fn both(first: bool, second: bool) -> bool {
     false
 }
 
-fn numbers() {
-    tell(b"1. (P) Empty input: 1, place 0", is_refused(b"", 1, 0));
-    tell(b"2. (P) 80 00: 2, place 0", is_refused(b"\x80\x00", 2, 0));
-    tell(b"3. (P) FF FF: 1, place 0", is_refused(b"\xff\xff", 1, 0));
+fn numbers<W: Write>(output: &mut W) {
     tell(
+        output,
+        b"1. (P) Empty input: 1, place 0",
+        is_refused(b"", 1, 0),
+    );
+    tell(
+        output,
+        b"2. (P) 80 00: 2, place 0",
+        is_refused(b"\x80\x00", 2, 0),
+    );
+    tell(
+        output,
+        b"3. (P) FF FF: 1, place 0",
+        is_refused(b"\xff\xff", 1, 0),
+    );
+    tell(
+        output,
         b"4. (P) 80 80 04: 2, place 0",
         is_refused(b"\x80\x80\x04", 2, 0),
     );
-    tell(b"5. (P) 02: 3, place 0", is_refused(b"\x02", 3, 0));
+    tell(output, b"5. (P) 02: 3, place 0", is_refused(b"\x02", 3, 0));
 }
 
 // "accepted; one seat, never over. With one byte more: 5, place 13."
-fn smallest() {
+fn smallest<W: Write>(output: &mut W) {
     let table = SMALLEST;
     let longer = ONE_BYTE_MORE;
     let plays = reads(&table, opened(&table), 0, b"\x00\x00\x00\x00\x00\x00");
     tell(
+        output,
         b"6. (P) One seat, never over: accepted",
         both(is_accepted(&table), plays),
     );
     tell(
+        output,
         b"6. (P) With one byte more: 5, place 13",
         is_refused(&longer, 5, 13),
     );
 }
 
-fn atoms() {
+fn atoms<W: Write>(output: &mut W) {
     let seven = P_IF_NOT_P;
     let eight = P_IF_P;
     let nine = P_IF_NOT_Q;
     let ten = LEGAL_BY_DOES;
-    tell(b"7. (P) Only p if not p: 11", is_numbered(&seven, 11));
     tell(
+        output,
+        b"7. (P) Only p if not p: 11",
+        is_numbered(&seven, 11),
+    );
+    tell(
+        output,
         b"8. (P) Only p if p: accepted, p false",
         both(is_accepted(&eight), is_flagged(&eight, 0, 0)),
     );
     tell(
+        output,
         b"9. (P) q if q; p if not q: p true",
         is_flagged(&nine, 0, 1),
     );
     tell(
+        output,
         b"10. A legal atom with not p, and p if does: 10",
         is_numbered(&ten, 10),
     );
 }
 
-fn penny() {
+fn penny<W: Write>(output: &mut W) {
     let table = PENNY;
     let start = opened(&table);
     let equal = played(&table, 0, 0);
@@ -82,18 +105,22 @@ fn penny() {
     let lost = reads(&table, other, 0, b"\x00\x01\x01\x01\x00\x00\x01\x00");
     let second = b"\x01\x01\x01\x00\x00\x01\x32";
     tell(
+        output,
         b"11. (P) Open: seat 0 reads 00 00 00 00 02 00 01 00",
         reads(&table, start, 0, b"\x00\x00\x00\x00\x02\x00\x01\x00"),
     );
     tell(
+        output,
         b"12. (P) Both play 0: seat 0 reads 00 01 01 01 00 00 01 64, seat 1 reads 01 01 01 00 00 01 32",
         both(won, reads(&table, equal, 1, second)),
     );
     tell(
+        output,
         b"13. (P) Seat 0 plays 1, seat 1 plays 0: seat 0 reads 00 01 01 01 00 00 01 00, seat 1 as in 12",
         both(lost, reads(&table, other, 1, second)),
     );
     tell(
+        output,
         b"14. (P) Seat 0's moves are hidden from seat 1; seat 1's are not hidden from seat 0",
         both(
             answers_for_both(&table, 1, 0, 1),
@@ -102,9 +129,10 @@ fn penny() {
     );
 }
 
-fn main() {
-    numbers();
-    smallest();
-    atoms();
-    penny();
+fn main(rt: HostRuntime) {
+    let mut output = rt.stdout();
+    numbers(&mut output);
+    smallest(&mut output);
+    atoms(&mut output);
+    penny(&mut output);
 }

@@ -4,7 +4,7 @@ use Rattle.feed.proofs.Feeding.{behinds}
 use Rattle.feed.proofs.behind.Goals as goal
 
 pub returns-then-feed : goal.returns-then-feed
-returns-then-feed c = (search (rules, behinds), search rules)
+returns-then-feed c = record { value = search (rules, behinds); by_index = search rules }
 
 pub returns : goal.returns
-returns c = (search (rules, behinds), search rules)
+returns c = record { value = search (rules, behinds); by_index = search rules }

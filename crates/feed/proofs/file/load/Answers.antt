@@ -1,16 +1,6 @@
--- A name that cannot be read, or the bytes that were read.
-use borrow.Author.Rules.{rules}
-use Rattle.feed.proofs.Loading.{fillings}
+-- The bytes that were read are a file's.
+use Rattle.feed.proofs.Loading.{a_file}
 use Rattle.feed.proofs.file.load.Goals as goal
 
-pub returns-then-not-is_ascii : goal.returns-then-not-is_ascii
-returns-then-not-is_ascii c = search (rules, fillings)
-
-pub returns-then-fd-lt0 : goal.returns-then-fd-lt0
-returns-then-fd-lt0 c = search (rules, fillings)
-
-pub returns-then-got : goal.returns-then-got
-returns-then-got c = search (rules, fillings)
-
 pub returns : goal.returns
-returns c = search (rules, fillings)
+returns g c = a_file _ _ _ c.fill.ensures

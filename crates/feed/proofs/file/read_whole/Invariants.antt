@@ -5,7 +5,7 @@ use lib.ListN.{length}
 use Rattle.feed.proofs.file.read_whole.Given as goal
 
 abbrev pub invariant-loop-have : goal.invariant-loop-have
-invariant-loop-have l = (length l.room ≡ length l.initial.room) × (l.have ≤ length l.room)
+invariant-loop-have g l = (length l.room ≡ length l.initial.room) × (l.have ≤ length l.room)
 
 abbrev pub decreases-loop-have : goal.decreases-loop-have
-decreases-loop-have l = length l.room - l.have
+decreases-loop-have g l = length l.room - l.have
