@@ -1,4 +1,5 @@
 -- The message of any record fits into the room that is asked for, so that none runs past the lent room.
+use Rattle.std.specs.Prelude.{if◌then◌else◌}
 use mathlib.Core.Path.{◌≡◌, ap}
 use mathlib.Core.Bool.{Bool, true, false, cond}
 use mathlib.Core.List.{List, [], ◌∷◌, ◌++◌}
@@ -6,7 +7,6 @@ use Prim.Native.Nat.{ℕ, zero, suc, ◌+◌, ◌*◌, ◌-◌, ◌/◌, ◌≤�
 use native.Mathlib.Omega.{arith}
 use lib.Dec.{ltb}
 use lib.ListN.{length, length-append}
-use Rattle.numbers.specs.If.{if◌then◌else◌}
 use Rattle.numbers.specs.Number.{bits}
 use Rattle.numbers.specs.Writing.{number_bytes, bytes_of}
 use Rattle.gdl.specs.Game.{Game}

@@ -1,5 +1,6 @@
 -- What a reading of the table gives depends on what is left of the input alone: two readings that go well, with the same bytes left, give the
 -- same and leave the same.
+use Rattle.std.specs.Prelude.{if◌then◌else◌}
 use mathlib.Core.Path.{◌≡◌, refl, sym, ap, subst, ◌∙◌}
 use mathlib.Core.Bool.{Bool, true, false}
 use mathlib.Core.List.{List}
@@ -10,7 +11,6 @@ use lib.Dec.{ltb, leb, eqb}
 use lib.ListN.{length, get_or, drop, length-drop}
 use lib.Seq.{get_or-drop, drop-drop}
 use borrow.Author.Tests.{le-leb, lt-leb}
-use Rattle.numbers.specs.If.{if◌then◌else◌}
 use Rattle.numbers.specs.Number.{bits, run_at, number_of_two, number_of_three, number_of, number_at}
 use Rattle.numbers.specs.declared.Number.TheVariants.{Read, Long, Large}
 use Rattle.numbers.specs.declared.Run.{Run}

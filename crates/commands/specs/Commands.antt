@@ -1,6 +1,5 @@
 -- Which command a line is: the protocol's table of commands, by the first word of a line and the number of its words.
-use Rattle.std.specs.Prelude.{ℕ, Bool, true, false, List, [], ◌∷◌}
-use Rattle.numbers.specs.If.{if◌then◌else◌}
+use Rattle.std.specs.Prelude.{ℕ, Bool, true, false, List, [], ◌∷◌, if◌then◌else◌}
 use Rattle.commands.specs.Texts.{text, same}
 use Rattle.commands.specs.declared.command.Command.{Command}
 use Rattle.commands.specs.declared.command.Command.TheVariants.{Table, Load, Check, Claim, Open, Offer, Play, Message, Hidden, Model, Record, Help, Unknown}

@@ -1,6 +1,5 @@
 -- The numbers of a command: "numbers are decimal".
-use Rattle.std.specs.Prelude.{ℕ, List, [], leb, length, get_or}
-use Rattle.numbers.specs.If.{if◌then◌else◌}
+use Rattle.std.specs.Prelude.{ℕ, List, [], leb, length, get_or, if◌then◌else◌}
 use Rattle.lines.specs.Words.{words_of}
 use Rattle.lines.specs.Decimal.{decimal_of}
 use Rattle.lines.specs.declared.decimal.Decimal.{Decimal}

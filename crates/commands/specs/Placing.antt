@@ -1,6 +1,5 @@
 -- The position and the choices of a model command: "512 position bytes, 16 choice bytes, little endian".
-use Rattle.std.specs.Prelude.{ℕ, List, eqb}
-use Rattle.numbers.specs.If.{if◌then◌else◌}
+use Rattle.std.specs.Prelude.{ℕ, List, eqb, if◌then◌else◌}
 use Rattle.gdl.specs.Flags.{blank}
 use Rattle.session.specs.Bytes.{from_pairs}
 use Rattle.lines.specs.Hex.{hex_into}

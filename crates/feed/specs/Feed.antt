@@ -1,6 +1,5 @@
 -- What a feed of lines says of its room, and what it finds there.
-use Rattle.std.specs.Prelude.{ℕ, suc, ◌+◌, ◌≤◌, Bool, true, false, List, [], ◌∷◌, eqb, ltb}
-use Rattle.numbers.specs.If.{if◌then◌else◌}
+use Rattle.std.specs.Prelude.{ℕ, suc, ◌+◌, ◌≤◌, Bool, true, false, List, [], ◌∷◌, eqb, ltb, if◌then◌else◌}
 use Rattle.feed.specs.declared.Feed.{Feed}
 use Rattle.feed.specs.declared.Found.{Found}
 use Rattle.feed.specs.declared.Found.TheVariants.{Line, Long, Nothing, More}

@@ -1,7 +1,6 @@
 -- A file read whole: what the room holds afterwards is fixed by what the file has.
-use Rattle.std.specs.Prelude.{ℕ, ◌≡◌, Bool, List, leb, length}
+use Rattle.std.specs.Prelude.{ℕ, ◌≡◌, Bool, List, leb, length, if◌then◌else◌}
 use Rattle.std.proofs.lemmas.List.Edits.{sets}
-use Rattle.numbers.specs.If.{if◌then◌else◌}
 use Rattle.feed.specs.declared.file.Loaded.{Loaded}
 use Rattle.feed.specs.declared.file.Loaded.TheVariants.{Bytes, NoFile, TooMany}
 

@@ -1,6 +1,5 @@
 -- What a line is answered, and what is current afterwards: the protocol's table.
-use Rattle.std.specs.Prelude.{ℕ, ◌-◌, ◌≡◌, cond, List, [], leb, ltb, length, take}
-use Rattle.numbers.specs.If.{if◌then◌else◌}
+use Rattle.std.specs.Prelude.{ℕ, ◌-◌, ◌≡◌, cond, List, [], leb, ltb, length, take, if◌then◌else◌}
 use Rattle.rules.specs.Judged.{judge}
 use Rattle.session.specs.Shape.{blank_session}
 use Rattle.calls.specs.Calls.{claim}

@@ -1,6 +1,5 @@
 -- What the commands that change nothing are answered: check, claim, message, hidden and model.
-use Rattle.std.specs.Prelude.{ℕ, List, [], ◌∷◌, ◌++◌, ltb, take, replicate}
-use Rattle.numbers.specs.If.{if◌then◌else◌}
+use Rattle.std.specs.Prelude.{ℕ, List, [], ◌∷◌, ◌++◌, ltb, take, replicate, if◌then◌else◌}
 use Rattle.refusals.specs.declared.Refusal.{Refusal}
 use Rattle.gdl.specs.Flags.{blank}
 use Rattle.rules.specs.Verdict.{Verdict}

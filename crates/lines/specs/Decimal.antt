@@ -1,6 +1,5 @@
 -- Decimal numbers: "numbers are decimal", and "a number over 65,535" is refused.
-use Rattle.std.specs.Prelude.{ℕ, zero, suc, ◌+◌, ◌*◌, ◌-◌, ◌/◌, ◌%◌, ◌<◌, ◌≡◌, Bool, ◌&&◌, List, [], ◌∷◌, ◌++◌, leb, ltb, drop, length}
-use Rattle.numbers.specs.If.{if◌then◌else◌}
+use Rattle.std.specs.Prelude.{ℕ, zero, suc, ◌+◌, ◌*◌, ◌-◌, ◌/◌, ◌%◌, ◌<◌, ◌≡◌, Bool, ◌&&◌, List, [], ◌∷◌, ◌++◌, leb, ltb, drop, length, if◌then◌else◌}
 use Rattle.lines.specs.Every.{every}
 use Rattle.lines.specs.declared.decimal.Decimal.{Decimal}
 use Rattle.lines.specs.declared.decimal.Decimal.TheVariants.{Value, NotDecimal, TooLarge}

@@ -1,7 +1,6 @@
 -- Bytes in hex: "bytes are hex (`-` for none)".
-use Rattle.std.specs.Prelude.{ℕ, ◌+◌, ◌*◌, ◌-◌, ◌/◌, ◌%◌, Bool, false, ◌&&◌, ◌||◌, List, [], ◌∷◌, leb, ltb, eqb, length}
+use Rattle.std.specs.Prelude.{ℕ, ◌+◌, ◌*◌, ◌-◌, ◌/◌, ◌%◌, Bool, false, ◌&&◌, ◌||◌, List, [], ◌∷◌, leb, ltb, eqb, length, if◌then◌else◌}
 use Rattle.std.proofs.lemmas.List.Edits.{sets}
-use Rattle.numbers.specs.If.{if◌then◌else◌}
 use Rattle.lines.specs.Every.{every}
 use Rattle.lines.specs.declared.hex.Hex.{Hex}
 use Rattle.lines.specs.declared.hex.Hex.TheVariants.{Bytes, NotHex, TooMany}

@@ -1,6 +1,5 @@
 -- The words of a line: what stands between its blanks.
-use Rattle.std.specs.Prelude.{ℕ, suc, ◌≤◌, ◌≡◌, Bool, true, false, List, [], ◌∷◌, eqb, length, get_or, drop}
-use Rattle.numbers.specs.If.{if◌then◌else◌}
+use Rattle.std.specs.Prelude.{ℕ, suc, ◌≤◌, ◌≡◌, Bool, true, false, List, [], ◌∷◌, eqb, length, get_or, drop, if◌then◌else◌}
 
 -- a byte in front of the first of some words
 abbrev pub on_first : ℕ → List (List ℕ) → List (List ℕ)

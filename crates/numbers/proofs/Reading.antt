@@ -1,4 +1,5 @@
 -- Laws of reading: which case holds under which tests; that reading goes on within the input, to a value of at most 65,535.
+use Rattle.std.specs.Prelude.{if◌then◌else◌}
 use Prim.Native.Nat.{ℕ, ◌+◌, ◌%◌, ◌*◌, ◌≤◌, ◌<◌}
 use native.Mathlib.Omega.{arith}
 use mathlib.Core.Bool.{Bool, true, false}
@@ -7,7 +8,6 @@ use mathlib.Core.List.{List}
 use lib.ListN.{length, get_or}
 use lib.Dec.{leb, ltb, eqb}
 use borrow.Author.Tests.{leb-false, ltb-false, le-ltb, lt-ltb, le-leb, lt-leb, eq-eqb, ne_eqb}
-use Rattle.numbers.specs.If.{if◌then◌else◌}
 use Rattle.numbers.specs.Number.{run_at, number_of, number_of_two, number_of_three, number_at}
 use Rattle.numbers.specs.declared.Number.{Number}
 use Rattle.numbers.specs.declared.Number.TheVariants.{Read, Long, Large}

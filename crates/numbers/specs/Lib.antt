@@ -1,3 +1,2 @@
-pub mod If
 pub mod Number
 pub mod Writing

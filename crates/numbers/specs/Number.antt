@@ -1,6 +1,5 @@
 -- "A number (a house number) is a run of one to three bytes, seven bits each, lowest group first."
-use Rattle.std.specs.Prelude.{ℕ, ◌+◌, ◌*◌, ◌%◌, List, length, get_or, ltb, leb, eqb}
-use Rattle.numbers.specs.If.{if◌then◌else◌}
+use Rattle.std.specs.Prelude.{ℕ, ◌+◌, ◌*◌, ◌%◌, List, length, get_or, ltb, leb, eqb, if◌then◌else◌}
 use Rattle.numbers.specs.declared.Number.{Number}
 use Rattle.numbers.specs.declared.Number.TheVariants.{Read, Long, Large}
 use Rattle.numbers.specs.declared.Number.TheVariants as N

@@ -1,7 +1,6 @@
 -- The bytes of a number, and bytes written into lent room.
-use Rattle.std.specs.Prelude.{ℕ, ◌+◌, ◌/◌, List, [], ◌∷◌, ◌++◌, length, ltb, leb}
+use Rattle.std.specs.Prelude.{ℕ, ◌+◌, ◌/◌, List, [], ◌∷◌, ◌++◌, length, ltb, leb, if◌then◌else◌}
 use Rattle.std.proofs.lemmas.List.Edits.{sets}
-use Rattle.numbers.specs.If.{if◌then◌else◌}
 use Rattle.numbers.specs.Number.{bits}
 
 -- "seven bits each, lowest group first. The top bit is set on every byte but the last. .. Only the shortest form is allowed"

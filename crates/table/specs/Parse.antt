@@ -1,6 +1,5 @@
 -- Reading, as a definition: a reader goes from the bytes and a place to a value and the place after it, or to a refusal with its place.
-use Rattle.std.specs.Prelude.{ℕ, ◌+◌, List, Bool, true, false, ltb, leb, length}
-use Rattle.numbers.specs.If.{if◌then◌else◌}
+use Rattle.std.specs.Prelude.{ℕ, ◌+◌, List, Bool, true, false, ltb, leb, length, if◌then◌else◌}
 use Rattle.numbers.specs.Number.{number_at}
 use Rattle.numbers.specs.declared.Number.{Number}
 use Rattle.numbers.specs.declared.Number.TheVariants.{Read, Cut, Long, Large}
