@@ -9,12 +9,10 @@ use Rattle.gdl.specs.Game.{Game}
 use Rattle.gdl.specs.Flags.{on}
 use Rattle.gdl.specs.Computed.{model}
 use Rattle.rules.specs.Accepted.{Accepted}
-use Rattle.rules.proofs.Accepting.{accepted}
 use Rattle.session.specs.Shape.{limits_of}
 use Rattle.session.specs.declared.shape.Limits.{Limits}
 use Rattle.truth.specs.Marks.{marks_of}
 use Rattle.verdict.specs.Consulted.{Consulted, found_in, Fit}
-use Rattle.verdict.specs.declared.Learnt.TheVariants as L
 use Rattle.calls.specs.Position.{over, legal, goal}
 use Rattle.calls.proofs.Settled.{settled}
 use Rattle.answers.specs.Asked.{Asked}

@@ -13,7 +13,6 @@ use Rattle.gdl.specs.Flags.{on, bit}
 use Rattle.gdl.specs.Computed.{reach_of, hidden}
 use Rattle.rules.specs.Accepted.{Accepted}
 use Rattle.rules.specs.Verdict.{fit}
-use Rattle.rules.proofs.Accepting.{accepted}
 use Rattle.session.specs.declared.shape.Limits.{Limits}
 use Rattle.verdict.specs.Consulted.{Consulted, found_in, Fit}
 use Rattle.answers.specs.Asked.{Traced}

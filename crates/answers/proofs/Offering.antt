@@ -6,19 +6,18 @@ use Prim.Native.Nat.{ℕ, ◌+◌, ◌*◌, ◌≤◌, ◌<◌}
 use native.Mathlib.Omega.{arith}
 use lib.Dec.{eqb, leb}
 use lib.ListN.{length, get_or}
-use borrow.Author.Tests.{le-leb, lt-leb, ne_eqb, eq-eqb, not-true, not-false}
+use borrow.Author.Tests.{le-leb, lt-leb, ne_eqb, eq-eqb}
 use Rattle.gdl.specs.Game.{Game}
 use Rattle.gdl.specs.Flags.{on}
 use Rattle.gdl.specs.Computed.{model}
 use Rattle.rules.specs.Accepted.{Accepted}
-use Rattle.rules.proofs.Accepting.{accepted}
 use Rattle.session.specs.Shape.{shaped, limits_of}
 use Rattle.session.specs.declared.Session.{Session}
 use Rattle.session.specs.declared.shape.Limits.{Limits}
 use Rattle.truth.specs.Marks.{marks_of}
 use Rattle.verdict.specs.Consulted.{Consulted, found_in}
 use Rattle.calls.specs.Position.{over, legal}
-use Rattle.calls.specs.Calls.{chosen, offer}
+use Rattle.calls.specs.Calls.{chosen}
 use Rattle.answers.proofs.Asking.{limits_are, over_mark, legal_mark}
 
 -- what the limits of a header are

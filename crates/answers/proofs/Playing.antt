@@ -24,7 +24,7 @@ use Rattle.session.proofs.Shapes.{shaped_parts, choices_mean}
 use Rattle.truth.specs.Marks.{is_at, marks_of}
 use Rattle.verdict.specs.Consulted.{Consulted, found_in}
 use Rattle.calls.specs.Position.{atom_in, moved, played}
-use Rattle.calls.specs.Calls.{unchosen, illegal, play}
+use Rattle.calls.specs.Calls.{unchosen, illegal}
 use Rattle.answers.specs.Lowest.{LowestOr, Chosen, lacks, wrongs}
 use Rattle.answers.proofs.Reading.{wide_at, fits, only_fitting}
 use Rattle.answers.proofs.Asking.{limits_are, legal_mark}

@@ -2,7 +2,7 @@
 use mathlib.Core.Path.{◌≡◌, sym, ap, ◌∙◌}
 use mathlib.Core.Bool.{Bool, true, false, not, cond}
 use mathlib.Core.List.{List, [], ◌∷◌, ◌++◌, append_assoc}
-use Prim.Native.Nat.{ℕ, ◌+◌, ◌*◌, ◌≤◌, ◌<◌}
+use Prim.Native.Nat.{ℕ, ◌*◌, ◌≤◌, ◌<◌}
 use native.Mathlib.Omega.{arith}
 use lib.Dec.{eqb, leb}
 use lib.ListN.{length, get_or}
@@ -15,14 +15,12 @@ use Rattle.gdl.specs.Lists.{those}
 use Rattle.gdl.specs.Computed.{model}
 use Rattle.gdl.proofs.Walks.{those_same}
 use Rattle.rules.specs.Accepted.{Accepted}
-use Rattle.rules.proofs.Accepting.{accepted}
 use Rattle.rules.specs.Verdict.{fit}
 use Rattle.session.specs.Shape.{shaped, limits_of}
 use Rattle.session.specs.declared.Session.{Session}
 use Rattle.session.specs.declared.shape.Limits.{Limits}
 use Rattle.session.proofs.Shapes.{shaped_parts}
 use Rattle.message.specs.Message.{from, message_of, Fits}
-use Rattle.message.specs.Message as M
 use Rattle.message.specs.declared.Sheet.{Sheet}
 use Rattle.verdict.specs.Consulted.{Consulted, found_in}
 use Rattle.calls.specs.Position.{over, legal, goal}

@@ -1,20 +1,19 @@
 -- The tests of model and message on an accepted table that was consulted, and what they write.
 use mathlib.Core.Path.{◌≡◌, ap, ap₂, ◌∙◌}
-use mathlib.Core.Bool.{Bool, true, false, not, ◌&&◌}
+use mathlib.Core.Bool.{Bool, true, false, ◌&&◌}
 use mathlib.Core.List.{List, ◌++◌}
 use Prim.Native.Nat.{ℕ, ◌+◌, ◌-◌, ◌≤◌, ◌<◌}
 use native.Mathlib.Omega.{arith}
 use lib.ListN.{length, take, drop, length-append}
 use lib.Seq.{take-append_seam}
-use borrow.Author.Tests.{lt-ltb, le-ltb, not-true, not-false}
+use borrow.Author.Tests.{lt-ltb, le-ltb}
 use Rattle.refusals.specs.declared.Refusal.TheVariants.{Success, BadShape, RoomTooShort}
 use Rattle.gdl.specs.Game.{Game}
-use Rattle.gdl.specs.Flags.{on, blank}
+use Rattle.gdl.specs.Flags.{blank}
 use Rattle.gdl.specs.Lists.{every}
 use Rattle.gdl.specs.Computed.{model}
 use Rattle.gdl.proofs.Modelled.{model_length}
 use Rattle.rules.specs.Accepted.{Accepted}
-use Rattle.rules.proofs.Accepting.{accepted}
 use Rattle.rules.specs.Verdict.{fit}
 use Rattle.session.specs.Shape.{flag_fits, below, choice_within, position_shaped, choices_shaped}
 use Rattle.session.specs.declared.shape.Limits.{Limits}

@@ -1,5 +1,4 @@
 -- The search walks up the seats; those passed do not strike.
-use Prim.Native.Nat.{◌-◌}
 use lib.ListN.{get_or}
 use borrow.Author.Tests.{eq-eqb, ne_eqb}
 use Rattle.answers.specs.Lowest.{lacks}

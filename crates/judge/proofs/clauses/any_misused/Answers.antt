@@ -1,5 +1,4 @@
 -- The loop: no atom passed is misused.
-use Prim.Native.Nat.{◌-◌}
 use borrow.Author.Rules.{rules}
 use Rattle.judge.proofs.Misusing.{misusing}
 use Rattle.judge.proofs.clauses.any_misused.Goals as goal

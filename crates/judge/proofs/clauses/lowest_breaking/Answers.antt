@@ -1,5 +1,4 @@
 -- The loop: no clause passed breaks the rule.
-use Prim.Native.Nat.{◌-◌}
 use borrow.Author.Rules.{rules}
 use Rattle.judge.proofs.Breaking.{telling}
 use Rattle.judge.proofs.Searching.{searches}

@@ -1,5 +1,4 @@
 -- The loop: none of the literals passed is of one of these kinds.
-use Prim.Native.Nat.{◌-◌}
 use borrow.Author.Rules.{rules}
 use Rattle.judge.proofs.Breaking.{telling}
 use Rattle.judge.proofs.Searching.{searches}

@@ -1,5 +1,4 @@
 -- The loop: none of the kinds passed is the one that is looked for.
-use Prim.Native.Nat.{◌-◌}
 use borrow.Author.Rules.{rules}
 use Rattle.judge.proofs.Searching.{searches}
 use Rattle.judge.proofs.kinds.one_of.Goals as goal

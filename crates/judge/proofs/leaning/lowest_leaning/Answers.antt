@@ -1,5 +1,4 @@
 -- The loop: no atom passed leans. A marked atom of these kinds is none of those, so it depends on one.
-use Prim.Native.Nat.{◌-◌}
 use Rattle.judge.proofs.Marking.{leaning}
 use Rattle.judge.proofs.Searching.{searches}
 use borrow.Author.Rules.{rules}

@@ -1,5 +1,4 @@
 -- The loop: the atoms passed have their marks, and the rest have none.
-use Prim.Native.Nat.{◌-◌}
 use Rattle.judge.proofs.Marking.{leaning}
 use borrow.Author.Rules.{rules}
 use Rattle.judge.proofs.leaning.sow.Goals as goal

@@ -1,5 +1,4 @@
 -- The loop: no seat passed is without a role fact.
-use Prim.Native.Nat.{◌-◌}
 use borrow.Author.Rules.{rules}
 use Rattle.judge.proofs.Searching.{searches}
 use Rattle.judge.proofs.Seating.{seating}

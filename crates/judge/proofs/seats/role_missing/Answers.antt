@@ -1,5 +1,4 @@
 -- The loop: none of the heads passed is the seat's role atom.
-use Prim.Native.Nat.{◌-◌}
 use borrow.Author.Rules.{rules}
 use Rattle.judge.proofs.Searching.{searches}
 use Rattle.judge.proofs.Seating.{seating}
