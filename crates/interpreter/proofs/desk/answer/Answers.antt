@@ -4,7 +4,7 @@ use Rattle.interpreter.proofs.Answering.{linings}
 use Rattle.interpreter.proofs.desk.answer.Goals as goal
 
 pub returns-then-not-is_nothing : goal.returns-then-not-is_nothing
-returns-then-not-is_nothing c = search (rules, linings)
+returns-then-not-is_nothing g c = search (rules, linings)
 
 pub returns : goal.returns
-returns c = search (rules, linings)
+returns g c = search (rules, linings)
