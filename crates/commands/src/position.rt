@@ -8,7 +8,7 @@ use lines::hex::{Hex, read_hex};
 use session::bytes::read_choices;
 
 // A position and choices, and what is wrong with their words.
-#[derive(Drop)]
+#[derive(Clone, Copy)]
 pub struct Placed {
     pub fault: Fault,
     pub position: [u8; 512],

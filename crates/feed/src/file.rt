@@ -9,7 +9,7 @@ use std::fs;
 use std::io::Read;
 use std::rt::Files;
 
-#[derive(Drop)]
+#[derive(Clone, Copy)]
 pub enum Loaded {
     Bytes(usize),
     NoFile,

@@ -2,14 +2,14 @@
 #![tactic(auto)]
 
 // "Seat numbers, move numbers, fluent numbers and atom numbers are kept apart throughout: a mixed-up pair once cost us a release."
-#[derive(Drop)]
+#[derive(Clone, Copy)]
 pub struct Seat(pub u16);
 
-#[derive(Drop)]
+#[derive(Clone, Copy)]
 pub struct Move(pub u16);
 
-#[derive(Drop)]
+#[derive(Clone, Copy)]
 pub struct Fluent(pub u16);
 
-#[derive(Drop)]
+#[derive(Clone, Copy)]
 pub struct Atom(pub u16);

@@ -14,7 +14,7 @@ use session::bytes::{read_choices, session_of};
 
 // The number and the place of a refusal, and the call's own number: the claim, the length or the hidden answer, and else 0.
 #[repr(C)]
-#[derive(Drop)]
+#[derive(Clone, Copy)]
 pub struct Answer {
     pub number: u64,
     pub place: u64,

@@ -16,14 +16,14 @@ use session::bytes::blank_session;
 use std::rt::Files;
 
 // How much of the table's room is the current table, and the current record.
-#[derive(Drop)]
+#[derive(Clone, Copy)]
 pub struct Desk {
     pub table: usize,
     pub session: Session,
 }
 
 // What is current after a line, and how long its answer is.
-#[derive(Drop)]
+#[derive(Clone, Copy)]
 pub struct Answered {
     pub desk: Desk,
     pub length: usize,

@@ -15,7 +15,7 @@ use session::Session;
 use session::bytes::from_bytes;
 
 // The record after a command, and how long the answer is.
-#[derive(Drop)]
+#[derive(Clone, Copy)]
 pub struct Turned {
     pub session: Session,
     pub length: usize,

@@ -10,7 +10,7 @@ use lines::hex::{Hex, read_hex};
 use std::rt::Files;
 
 // How long the table is after a command, and how long the answer.
-#[derive(Drop)]
+#[derive(Clone, Copy)]
 pub struct Taken {
     pub table: usize,
     pub length: usize,

@@ -1,5 +1,5 @@
 // Where a rule is broken.
-#[derive(Drop)]
+#[derive(Clone, Copy)]
 pub(super) enum Found {
     Nowhere,
     At(usize),

@@ -21,7 +21,7 @@ use refusals::{Refusal, number_of};
 use seats::lowest_seat;
 
 // A refusal of 6 to 12; or Success and the first number above the levels, which stand in lent room.
-#[derive(Drop)]
+#[derive(Clone, Copy)]
 pub struct Judgement {
     pub refusal: Refusal,
     pub top: u16,

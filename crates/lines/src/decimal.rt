@@ -100,7 +100,7 @@ fn no_digits() -> [u8; 20]
 }
 
 // The digits of a number, at the end of twenty bytes.
-#[derive(Drop)]
+#[derive(Clone, Copy)]
 struct Spelt {
     digits: [u8; 20],
     start: usize,

@@ -18,7 +18,7 @@ pub enum Number {
 }
 
 // The bytes of a number, by their count. The top bit is set on every byte but the last.
-#[derive(Drop)]
+#[derive(Clone, Copy)]
 pub enum Run {
     Cut,
     One(u16),

@@ -6,14 +6,14 @@ ghost use Rattle.reader.specs.Reading.{after, found_at, reader_at, read_next, cl
 
 use numbers::Number;
 
-#[derive(Drop)]
+#[derive(Clone, Copy)]
 pub struct Reader<'a> {
     pub table: &'a [u8],
     pub at: usize,
 }
 
 // What stands at a place of a table, and the place to go on from.
-#[derive(Drop)]
+#[derive(Clone, Copy)]
 pub struct Found {
     pub number: Number,
     pub next: usize,
@@ -64,7 +64,7 @@ pub fn place<'a>(reader: Reader<'a>) -> usize
 }
 
 // How a clause record begins: the numbers of its head and of its count of literals, and the place where the literals start.
-#[derive(Drop)]
+#[derive(Clone, Copy)]
 pub struct ClauseStart {
     pub head: Number,
     pub count: Number,

@@ -20,7 +20,7 @@ fn write_line<W: Write>(output: &mut W, room: &mut [u8], length: usize) -> bool 
 }
 
 // What is current after an answer, and whether there is more to answer.
-#[derive(Drop)]
+#[derive(Clone, Copy)]
 struct Served {
     desk: Desk,
     more: bool,

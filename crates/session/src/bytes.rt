@@ -9,7 +9,7 @@ use crate::Session;
 use numbers::copying::copy;
 
 // What bytes say: whether they are a record, and which; a blank one where they are none.
-#[derive(Drop)]
+#[derive(Clone, Copy)]
 pub struct Read {
     pub whole: bool,
     pub session: Session,

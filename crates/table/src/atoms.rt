@@ -45,7 +45,7 @@ pub struct AtomRecord {
     pub second: u16,
 }
 
-#[derive(Drop)]
+#[derive(Clone, Copy)]
 pub enum AtomRead {
     Good(AtomRecord, usize),
     Fault(Refusal),
@@ -85,7 +85,7 @@ fn key_of(a: AtomRecord) -> u64
 }
 
 // The place after the records, or the first fault.
-#[derive(Drop)]
+#[derive(Clone, Copy)]
 pub enum Records {
     Good(usize),
     Fault(Refusal),

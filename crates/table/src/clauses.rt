@@ -38,13 +38,13 @@ fn read_literals(
 }
 
 // A clause, less its literals.
-#[derive(Drop)]
+#[derive(Clone, Copy)]
 pub struct Outline {
     pub head: Atom,
     pub count: u16,
 }
 
-#[derive(Drop)]
+#[derive(Clone, Copy)]
 pub enum ClauseRead {
     Good(Outline, usize),
     Fault(Refusal),

@@ -7,13 +7,13 @@ use numbers::Number;
 use refusals::Refusal;
 
 // A number that was read, and the place after it.
-#[derive(Drop)]
+#[derive(Clone, Copy)]
 pub struct Item {
     pub value: u16,
     pub next: usize,
 }
 
-#[derive(Drop)]
+#[derive(Clone, Copy)]
 pub enum Field {
     Value(Item),
     Fault(Refusal),

@@ -13,7 +13,7 @@ pub struct Players {
     pub chance: u16,
 }
 
-#[derive(Drop)]
+#[derive(Clone, Copy)]
 pub enum PlayersRead {
     Good(Players, usize),
     Fault(Refusal),
@@ -27,7 +27,7 @@ pub struct Sizes {
     pub atoms: u16,
 }
 
-#[derive(Drop)]
+#[derive(Clone, Copy)]
 pub enum SizesRead {
     Good(Sizes, usize),
     Fault(Refusal),
@@ -39,7 +39,7 @@ pub struct Header {
     pub sizes: Sizes,
 }
 
-#[derive(Drop)]
+#[derive(Clone, Copy)]
 pub enum Head {
     Good(Header, usize),
     Fault(Refusal),

@@ -10,14 +10,14 @@ use crate::header::{Head, Header};
 use refusals::Refusal;
 
 // The header of the table and how many clauses it has, or the first fault.
-#[derive(Drop)]
+#[derive(Clone, Copy)]
 pub enum Read {
     Good(Header, u16),
     Fault(Refusal),
 }
 
 // How many clauses there are, or the first fault.
-#[derive(Drop)]
+#[derive(Clone, Copy)]
 pub enum Rest {
     Good(u16),
     Fault(Refusal),

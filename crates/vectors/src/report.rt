@@ -1,7 +1,7 @@
 // What is told: how many lines were compared, how many answers differ, and the first that does.
 use std::io::Write;
 
-#[derive(Drop)]
+#[derive(Clone, Copy)]
 pub struct Tally {
     pub lines: u64,
     pub differ: u64,

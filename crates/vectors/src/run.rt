@@ -9,7 +9,7 @@ use std::io::{Read, Write};
 use std::rt::Files;
 
 // What is current after a line, and the count so far.
-#[derive(Drop)]
+#[derive(Clone, Copy)]
 struct State {
     desk: Desk,
     tally: Tally,
@@ -102,7 +102,7 @@ fn compare<F: Files, W: Write>(
     }
 }
 
-#[derive(Drop)]
+#[derive(Clone, Copy)]
 struct Run {
     pair: Pair,
     state: State,

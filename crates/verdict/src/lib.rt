@@ -90,7 +90,7 @@ fn truth_part<'s>(
 }
 
 // The verdict on a table: its refusal; or its header, how many clauses it has, and the first number above its levels.
-#[derive(Drop)]
+#[derive(Clone, Copy)]
 enum Weighed {
     Refused(Refusal),
     Accepted(Header, u16, u16),
@@ -136,7 +136,7 @@ fn weigh(
 }
 
 // What a call learns from a table: the refusal, or the header. The atoms, and a flag for each, are learnt in lent arrays.
-#[derive(Drop)]
+#[derive(Clone, Copy)]
 pub enum Learnt {
     Refused(Refusal),
     Accepted(Header),
@@ -200,7 +200,7 @@ pub fn consult<'s>(
 }
 
 // The verdict on a table, and its header.
-#[derive(Drop)]
+#[derive(Clone, Copy)]
 pub struct Examined {
     pub refusal: Refusal,
     pub header: Header,
