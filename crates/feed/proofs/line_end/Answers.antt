@@ -1,5 +1,4 @@
 -- The invariant: no line end stands between the two places.
-use Prim.Native.Nat.{◌-◌}
 use borrow.Author.Rules.{rules}
 use Rattle.feed.proofs.Feeding.{seekings}
 use Rattle.feed.proofs.line_end.Goals as goal

@@ -1,5 +1,4 @@
 -- The invariant: what is not moved yet stands where it stood.
-use Prim.Native.Nat.{◌-◌}
 use borrow.Author.Rules.{rules}
 use Rattle.feed.proofs.Feeding.{frontings}
 use Rattle.feed.proofs.to_front.Goals as goal

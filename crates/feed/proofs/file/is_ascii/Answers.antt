@@ -1,5 +1,4 @@
 -- The invariant: the bytes before the index pass.
-use Prim.Native.Nat.{◌-◌}
 use borrow.Author.Rules.{rules}
 use Rattle.feed.proofs.Loading.{asciis}
 use Rattle.feed.proofs.file.is_ascii.Goals as goal

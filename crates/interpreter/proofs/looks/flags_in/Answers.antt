@@ -1,5 +1,4 @@
 -- The invariant: the bytes before the index are flags.
-use Prim.Native.Nat.{◌-◌}
 use borrow.Author.Rules.{rules}
 use Rattle.interpreter.proofs.Looking.{flaggings}
 use Rattle.interpreter.proofs.looks.flags_in.Goals as goal
