@@ -1,5 +1,6 @@
 /*
- * The calls of the referee for C: numbers and byte slices, the record in its byte form. Link crates/host/out/libhost.a (Linux, x86-64-v2).
+ * The calls of the referee for C: numbers and byte slices, the record in its byte form.
+ * Link host/out/libhost.a (Linux, x86-64-v2), which host/run builds.
  *
  * A slice is two arguments, a pointer and its number of bytes. What the caller owes, since the library cannot test it:
  * - no pointer is null, also where the number is 0, and each leads to that many bytes;

@@ -1,4 +1,4 @@
-// The calls as C functions over numbers and byte slices, for a host that is not written in Rattle; host/embalume.h declares them.
+// The calls over numbers and byte slices, for a host that is not written in Rattle; the crate host_c exports them as C functions.
 #![tactic(auto)]
 
 mod records; // records and positions in their byte form
@@ -42,15 +42,13 @@ fn wrong_length() -> Answer
     }
 }
 
-#[unsafe(no_mangle)]
-pub extern "C" fn embalume_check(table: &[u8]) -> Answer
+pub fn embalume_check(table: &[u8]) -> Answer
     ensures { CheckHosted table.now result }
 {
     said(referee::check(table), 0)
 }
 
-#[unsafe(no_mangle)]
-pub extern "C" fn embalume_claim(table: &[u8]) -> Answer
+pub fn embalume_claim(table: &[u8]) -> Answer
     ensures { result ≡ claim_hosted (judge table.now) }
 {
     let claimed = referee::claim(table);
@@ -58,8 +56,7 @@ pub extern "C" fn embalume_claim(table: &[u8]) -> Answer
     said(refusal, claimed.claim as u64)
 }
 
-#[unsafe(no_mangle)]
-pub extern "C" fn embalume_open(table: &[u8], bytes: &mut [u8]) -> Answer
+pub fn embalume_open(table: &[u8], bytes: &mut [u8]) -> Answer
     ensures { (result, bytes.new) ≡ open_hosted (judge table.now) bytes.old }
 {
     if bytes.len() != 2580 {
@@ -68,8 +65,7 @@ pub extern "C" fn embalume_open(table: &[u8], bytes: &mut [u8]) -> Answer
     hand_out(referee::open_game(table), bytes)
 }
 
-#[unsafe(no_mangle)]
-pub extern "C" fn embalume_offer(table: &[u8], bytes: &mut [u8], seat: u16, choice: u16) -> Answer
+pub fn embalume_offer(table: &[u8], bytes: &mut [u8], seat: u16, choice: u16) -> Answer
     ensures { (result, bytes.new) ≡ offer_hosted (judge table.now) seat choice bytes.old }
 {
     if bytes.len() != 2580 {
@@ -82,8 +78,7 @@ pub extern "C" fn embalume_offer(table: &[u8], bytes: &mut [u8], seat: u16, choi
     )
 }
 
-#[unsafe(no_mangle)]
-pub extern "C" fn embalume_play(table: &[u8], bytes: &mut [u8]) -> Answer
+pub fn embalume_play(table: &[u8], bytes: &mut [u8]) -> Answer
     ensures { (result, bytes.new) ≡ play_hosted (judge table.now) bytes.old }
 {
     if bytes.len() != 2580 {
@@ -93,8 +88,7 @@ pub extern "C" fn embalume_play(table: &[u8], bytes: &mut [u8]) -> Answer
     hand_back(referee::play(table, session), bytes)
 }
 
-#[unsafe(no_mangle)]
-pub extern "C" fn embalume_message(table: &[u8], bytes: &[u8], seat: u16, room: &mut [u8]) -> Answer
+pub fn embalume_message(table: &[u8], bytes: &[u8], seat: u16, room: &mut [u8]) -> Answer
     ensures { (result, room.new) ≡ message_hosted (judge table.now) bytes.now seat room.old }
 {
     if bytes.len() != 2580 {
@@ -106,8 +100,7 @@ pub extern "C" fn embalume_message(table: &[u8], bytes: &[u8], seat: u16, room: 
     said(refusal, sent.length as u64)
 }
 
-#[unsafe(no_mangle)]
-pub extern "C" fn embalume_hidden(table: &[u8], asking: u16, moving: u16, choice: u16) -> Answer
+pub fn embalume_hidden(table: &[u8], asking: u16, moving: u16, choice: u16) -> Answer
     ensures { HiddenHosted (judge table.now) asking moving choice result }
 {
     let looked = referee::hidden(table, Seat(asking), Seat(moving), Move(choice));
@@ -115,13 +108,7 @@ pub extern "C" fn embalume_hidden(table: &[u8], asking: u16, moving: u16, choice
     said(refusal, looked.hidden as u64)
 }
 
-#[unsafe(no_mangle)]
-pub extern "C" fn embalume_model(
-    table: &[u8],
-    position: &[u8],
-    choices: &[u8],
-    room: &mut [u8],
-) -> Answer
+pub fn embalume_model(table: &[u8], position: &[u8], choices: &[u8], room: &mut [u8]) -> Answer
     ensures { ModelHosted (judge table.now) position.now choices.now room.old (result, room.new) }
 {
     if position.len() != 512 {
