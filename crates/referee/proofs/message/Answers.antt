@@ -24,5 +24,5 @@ returns-in-Accepted c =
     let consult = c.consult in
     let fits = accepting _ _ _ _ _ _ _ consult.ensures _ c.in-Accepted.is in
     let no_choices = c.no_choices-choices in
-    let message-fit = c.message_fit in
-    answered a.table.now _ (unchosen a.session.position _ fits no_choices.ensures) (λ v. message v a.session a.seat.0 a.room.now) _ message-fit.ensures
+    let message_fit = c.message_fit in
+    answered a.table.now _ (unchosen a.session.position _ fits no_choices.ensures) (λ v. message v a.session a.seat.0 a.room.now) _ message_fit.ensures

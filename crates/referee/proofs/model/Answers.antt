@@ -21,5 +21,5 @@ returns-in-Accepted c =
     let a = c.args in
     let consult = c.consult in
     let fits = accepting _ _ _ _ _ _ _ consult.ensures _ c.in-Accepted.is in
-    let model-fit = c.model_fit in
-    model_answered a.table.now _ _ a.room.now fits _ model-fit.ensures
+    let model_fit = c.model_fit in
+    model_answered a.table.now _ _ a.room.now fits _ model_fit.ensures

@@ -17,9 +17,9 @@ returns-then-number_of-ne0 c =
     let pre = c.requires in
     let read_table = c.read_table in
     let got = was_read a.s.now _ _ _ _ _ _ _ _ _ _ _ _ _ _ _ read_table.ensures pre _ _ c.in-Good.is in
-    let judge-part = c.judge_part-j in
-    let number_of_lem = c.number_of in
-    broken got judge-part.ensures (λ q. c.if-number_of-ne0.true (number_of_lem.ensures ∙ q))
+    let judge_part = c.judge_part-j in
+    let number_of = c.number_of in
+    broken got judge_part.ensures (λ q. c.if-number_of-ne0.true (number_of.ensures ∙ q))
 
 pub returns-in-Fault : goal.returns-in-Fault
 returns-in-Fault c =
@@ -33,6 +33,6 @@ returns-else-number_of-ne0 c =
     let pre = c.requires in
     let read_table = c.read_table in
     let got = was_read a.s.now _ _ _ _ _ _ _ _ _ _ _ _ _ _ _ read_table.ensures pre _ _ c.in-Good.is in
-    let judge-part = c.judge_part-j in
-    let number_of_lem = c.number_of in
-    kept got judge-part.ensures (sym number_of_lem.ensures ∙ c.if-number_of-ne0.false)
+    let judge_part = c.judge_part-j in
+    let number_of = c.number_of in
+    kept got judge_part.ensures (sym number_of.ensures ∙ c.if-number_of-ne0.false)

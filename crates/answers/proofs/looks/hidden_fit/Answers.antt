@@ -11,25 +11,25 @@ pub returns-then-limits-asking : goal.returns-then-limits-asking
 returns-then-limits-asking c =
     let a = c.args in
     let fd = found a.header a.kinds.now a.firsts.now a.seconds.now a.flags.now in
-    let Limits-of = c.limits_of-limits in
-    λ G ok e. hidden_no_asking G a.asking.0 a.moving.0 a.choice.0 (seat_out fd Limits-of.result Limits-of.ensures G ok (reach_of G a.asking.0) e a.asking.0 c.if-limits-asking.true)
+    let limits = c.limits_of-limits in
+    λ G ok e. hidden_no_asking G a.asking.0 a.moving.0 a.choice.0 (seat_out fd limits.result limits.ensures G ok (reach_of G a.asking.0) e a.asking.0 c.if-limits-asking.true)
 
 pub returns-then-limits-moving : goal.returns-then-limits-moving
 returns-then-limits-moving c =
     let a = c.args in
     let fd = found a.header a.kinds.now a.firsts.now a.seconds.now a.flags.now in
-    let Limits-of = c.limits_of-limits in
+    let limits = c.limits_of-limits in
     let if1 = c.if-limits-asking in
-    λ G ok e. hidden_no_moving G a.asking.0 a.moving.0 a.choice.0 (seat_in fd Limits-of.result Limits-of.ensures G ok (reach_of G a.asking.0) e a.asking.0 if1.false) (seat_out fd Limits-of.result Limits-of.ensures G ok (reach_of G a.asking.0) e a.moving.0 c.if-limits-moving.true)
+    λ G ok e. hidden_no_moving G a.asking.0 a.moving.0 a.choice.0 (seat_in fd limits.result limits.ensures G ok (reach_of G a.asking.0) e a.asking.0 if1.false) (seat_out fd limits.result limits.ensures G ok (reach_of G a.asking.0) e a.moving.0 c.if-limits-moving.true)
 
 pub returns-then-limits-choice : goal.returns-then-limits-choice
 returns-then-limits-choice c =
     let a = c.args in
     let fd = found a.header a.kinds.now a.firsts.now a.seconds.now a.flags.now in
-    let Limits-of = c.limits_of-limits in
+    let limits = c.limits_of-limits in
     let if1 = c.if-limits-asking in
     let if2 = c.if-limits-moving in
-    λ G ok e. hidden_no_move G a.asking.0 a.moving.0 a.choice.0 (seat_in fd Limits-of.result Limits-of.ensures G ok (reach_of G a.asking.0) e a.asking.0 if1.false) (seat_in fd Limits-of.result Limits-of.ensures G ok (reach_of G a.asking.0) e a.moving.0 if2.false) (move_out fd Limits-of.result Limits-of.ensures G ok (reach_of G a.asking.0) e a.choice.0 c.if-limits-choice.true)
+    λ G ok e. hidden_no_move G a.asking.0 a.moving.0 a.choice.0 (seat_in fd limits.result limits.ensures G ok (reach_of G a.asking.0) e a.asking.0 if1.false) (seat_in fd limits.result limits.ensures G ok (reach_of G a.asking.0) e a.moving.0 if2.false) (move_out fd limits.result limits.ensures G ok (reach_of G a.asking.0) e a.choice.0 c.if-limits-choice.true)
 
 pub marks_in-reached-requires : goal.marks_in-reached-requires
 marks_in-reached-requires c =
@@ -41,29 +41,29 @@ bounds-reached-at c =
     let a = c.args in
     let fd = found a.header a.kinds.now a.firsts.now a.seconds.now a.flags.now in
     let pre = c.requires in
-    let Limits-of = c.limits_of-limits in
+    let limits = c.limits_of-limits in
     let if2 = c.if-limits-moving in
     let if3 = c.if-limits-choice in
-    omega (arith, seat_small fd Limits-of.result Limits-of.ensures pre.game pre.accepted (reach_of pre.game a.asking.0) pre.is a.moving.0 if2.false, move_small fd Limits-of.result Limits-of.ensures pre.game pre.accepted (reach_of pre.game a.asking.0) pre.is a.choice.0 if3.false)
+    omega (arith, seat_small fd limits.result limits.ensures pre.game pre.accepted (reach_of pre.game a.asking.0) pre.is a.moving.0 if2.false, move_small fd limits.result limits.ensures pre.game pre.accepted (reach_of pre.game a.asking.0) pre.is a.choice.0 if3.false)
 
 pub returns-then-reached-at-eq1 : goal.returns-then-reached-at-eq1
 returns-then-reached-at-eq1 c =
     let a = c.args in
     let fd = found a.header a.kinds.now a.firsts.now a.seconds.now a.flags.now in
-    let Limits-of = c.limits_of-limits in
+    let limits = c.limits_of-limits in
     let if1 = c.if-limits-asking in
     let if2 = c.if-limits-moving in
     let if3 = c.if-limits-choice in
-    let marks-in = c.marks_in-reached in
-    λ G ok e. is_seen fd Limits-of.result Limits-of.ensures G ok a.asking.0 e a.moving.0 a.choice.0 if2.false if3.false marks-in.result marks-in.ensures (seat_in fd Limits-of.result Limits-of.ensures G ok (reach_of G a.asking.0) e a.asking.0 if1.false) c.if-reached-at-eq1.true
+    let marks_in = c.marks_in-reached in
+    λ G ok e. is_seen fd limits.result limits.ensures G ok a.asking.0 e a.moving.0 a.choice.0 if2.false if3.false marks_in.result marks_in.ensures (seat_in fd limits.result limits.ensures G ok (reach_of G a.asking.0) e a.asking.0 if1.false) c.if-reached-at-eq1.true
 
 pub returns : goal.returns
 returns c =
     let a = c.args in
     let fd = found a.header a.kinds.now a.firsts.now a.seconds.now a.flags.now in
-    let Limits-of = c.limits_of-limits in
+    let limits = c.limits_of-limits in
     let if1 = c.if-limits-asking in
     let if2 = c.if-limits-moving in
     let if3 = c.if-limits-choice in
-    let marks-in = c.marks_in-reached in
-    λ G ok e. is_hidden fd Limits-of.result Limits-of.ensures G ok a.asking.0 e a.moving.0 a.choice.0 if2.false if3.false marks-in.result marks-in.ensures (seat_in fd Limits-of.result Limits-of.ensures G ok (reach_of G a.asking.0) e a.asking.0 if1.false) c.if-reached-at-eq1.false
+    let marks_in = c.marks_in-reached in
+    λ G ok e. is_hidden fd limits.result limits.ensures G ok a.asking.0 e a.moving.0 a.choice.0 if2.false if3.false marks_in.result marks_in.ensures (seat_in fd limits.result limits.ensures G ok (reach_of G a.asking.0) e a.asking.0 if1.false) c.if-reached-at-eq1.false

@@ -12,7 +12,7 @@ pub returns : goal.returns
 returns c =
     let a = c.args in
     let fd = found a.header a.kinds.now a.firsts.now a.seconds.now a.flags.now in
-    let marks-in = c.marks_in-marks in
-    let first_Marks = c.first_marks in
+    let marks_in = c.marks_in-marks in
+    let first_marks = c.first_marks in
     let no_choices = c.no_choices in
-    λ G ok e. open_answered G ok fd e marks-in.result first_Marks.result no_choices.result c.no_percepts.result marks-in.ensures first_Marks.ensures no_choices.ensures c.no_percepts.ensures
+    λ G ok e. open_answered G ok fd e marks_in.result first_marks.result no_choices.result c.no_percepts.result marks_in.ensures first_marks.ensures no_choices.ensures c.no_percepts.ensures

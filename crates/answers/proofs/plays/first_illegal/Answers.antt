@@ -46,15 +46,15 @@ pub returns-then-legal-s-ne1 : goal.returns-then-legal-s-ne1
 returns-then-legal-s-ne1 c =
     let a = c.args in
     let loop = c.loop-s in
-    let loop-test = c.loop-s-test in
-    search_stops (wrongs a.choices a.legal.now) a.seats loop.s loop.invariant loop-test.true (ap not (ne_eqb (get_or a.legal.now (loop.s * 256 + (get_or a.choices loop.s 0 - 1)) 0) 1 c.if-legal-s-ne1.true))
+    let loop_test = c.loop-s-test in
+    search_stops (wrongs a.choices a.legal.now) a.seats loop.s loop.invariant loop_test.true (ap not (ne_eqb (get_or a.legal.now (loop.s * 256 + (get_or a.choices loop.s 0 - 1)) 0) 1 c.if-legal-s-ne1.true))
 
 pub loop-s-preserved : goal.loop-s-preserved
 loop-s-preserved c =
     let a = c.args in
     let loop = c.loop-s in
-    let loop-test = c.loop-s-test in
-    search_goes_on (wrongs a.choices a.legal.now) a.seats loop.s loop.invariant loop-test.true (ap not (eq-eqb (get_or a.legal.now (loop.s * 256 + (get_or a.choices loop.s 0 - 1)) 0) 1 c.if-legal-s-ne1.false))
+    let loop_test = c.loop-s-test in
+    search_goes_on (wrongs a.choices a.legal.now) a.seats loop.s loop.invariant loop_test.true (ap not (eq-eqb (get_or a.legal.now (loop.s * 256 + (get_or a.choices loop.s 0 - 1)) 0) 1 c.if-legal-s-ne1.false))
 
 pub returns : goal.returns
 returns c =

@@ -12,15 +12,15 @@ pub returns-then-choices-s-eq0 : goal.returns-then-choices-s-eq0
 returns-then-choices-s-eq0 c =
     let a = c.args in
     let loop = c.loop-s in
-    let loop-test = c.loop-s-test in
-    search_stops (lacks a.choices) a.seats loop.s loop.invariant loop-test.true (eq-eqb (get_or a.choices loop.s 0) 0 c.if-choices-s-eq0.true)
+    let loop_test = c.loop-s-test in
+    search_stops (lacks a.choices) a.seats loop.s loop.invariant loop_test.true (eq-eqb (get_or a.choices loop.s 0) 0 c.if-choices-s-eq0.true)
 
 pub loop-s-preserved : goal.loop-s-preserved
 loop-s-preserved c =
     let a = c.args in
     let loop = c.loop-s in
-    let loop-test = c.loop-s-test in
-    search_goes_on (lacks a.choices) a.seats loop.s loop.invariant loop-test.true (ne_eqb (get_or a.choices loop.s 0) 0 c.if-choices-s-eq0.false)
+    let loop_test = c.loop-s-test in
+    search_goes_on (lacks a.choices) a.seats loop.s loop.invariant loop_test.true (ne_eqb (get_or a.choices loop.s 0) 0 c.if-choices-s-eq0.false)
 
 pub returns : goal.returns
 returns c =

@@ -17,10 +17,10 @@ pub returns-then-not-shaped : goal.returns-then-not-shaped
 returns-then-not-shaped c =
     let a = c.args in
     let fd = found a.header a.kinds.now a.firsts.now a.seconds.now a.flags.now in
-    let Limits-of = c.limits_of-limits in
+    let limits = c.limits_of-limits in
     let shaped = c.shaped in
     let if1 = c.if-not-shaped in
-    λ G ok e. c.kept.ensures ∙ play_bad_shape G a.session (misshapen a.session fd Limits-of.result Limits-of.ensures G ok a.session.choices e shaped.result shaped.ensures if1.true)
+    λ G ok e. c.kept.ensures ∙ play_bad_shape G a.session (misshapen a.session fd limits.result limits.ensures G ok a.session.choices e shaped.result shaped.ensures if1.true)
 
 pub marks_in-ends-requires : goal.marks_in-ends-requires
 marks_in-ends-requires c =
@@ -31,33 +31,33 @@ pub returns-then-ends-eq1 : goal.returns-then-ends-eq1
 returns-then-ends-eq1 c =
     let a = c.args in
     let fd = found a.header a.kinds.now a.firsts.now a.seconds.now a.flags.now in
-    let Limits-of = c.limits_of-limits in
+    let limits = c.limits_of-limits in
     let shaped = c.shaped in
     let if1 = c.if-not-shaped in
-    let marks-in = c.marks_in-ends in
+    let marks_in = c.marks_in-ends in
     let if2 = c.if-ends-eq1 in
-    λ G ok e. c.kept-then-ends-eq1.ensures ∙ play_over G a.session (well_shaped a.session fd Limits-of.result Limits-of.ensures G ok a.session.choices e shaped.result shaped.ensures if1.false) (is_over a.session fd Limits-of.result Limits-of.ensures G ok a.session.choices e marks-in.result marks-in.ensures if2.true)
+    λ G ok e. c.kept-then-ends-eq1.ensures ∙ play_over G a.session (well_shaped a.session fd limits.result limits.ensures G ok a.session.choices e shaped.result shaped.ensures if1.false) (is_over a.session fd limits.result limits.ensures G ok a.session.choices e marks_in.result marks_in.ensures if2.true)
 
 pub first_unchosen-lacking-requires : goal.first_unchosen-lacking-requires
 first_unchosen-lacking-requires c =
     let a = c.args in
     let fd = found a.header a.kinds.now a.firsts.now a.seconds.now a.flags.now in
     let pre = c.requires in
-    let Limits-of = c.limits_of-limits in
-    seats_few a.session fd Limits-of.result Limits-of.ensures pre.game pre.accepted a.session.choices pre.is
+    let limits = c.limits_of-limits in
+    seats_few a.session fd limits.result limits.ensures pre.game pre.accepted a.session.choices pre.is
 
 pub returns-then-lacking-limits : goal.returns-then-lacking-limits
 returns-then-lacking-limits c =
     let a = c.args in
     let fd = found a.header a.kinds.now a.firsts.now a.seconds.now a.flags.now in
-    let Limits-of = c.limits_of-limits in
+    let limits = c.limits_of-limits in
     let shaped = c.shaped in
     let if1 = c.if-not-shaped in
-    let marks-in = c.marks_in-ends in
+    let marks_in = c.marks_in-ends in
     let if2 = c.if-ends-eq1 in
-    let first-unchosen = c.first_unchosen-lacking in
+    let first_unchosen = c.first_unchosen-lacking in
     let if3 = c.if-lacking-limits in
-    λ G ok e. c.kept-then-lacking-limits.ensures ∙ play_no_choice G a.session (well_shaped a.session fd Limits-of.result Limits-of.ensures G ok a.session.choices e shaped.result shaped.ensures if1.false) (goes_on_lem a.session fd Limits-of.result Limits-of.ensures G ok a.session.choices e marks-in.result marks-in.ensures if2.false) first-unchosen.result (one_lacks a.session fd Limits-of.result Limits-of.ensures G ok a.session.choices e first-unchosen.result first-unchosen.ensures if3.true)
+    λ G ok e. c.kept-then-lacking-limits.ensures ∙ play_no_choice G a.session (well_shaped a.session fd limits.result limits.ensures G ok a.session.choices e shaped.result shaped.ensures if1.false) (goes_on_lem a.session fd limits.result limits.ensures G ok a.session.choices e marks_in.result marks_in.ensures if2.false) first_unchosen.result (one_lacks a.session fd limits.result limits.ensures G ok a.session.choices e first_unchosen.result first_unchosen.ensures if3.true)
 
 pub marks_in-legal-requires : goal.marks_in-legal-requires
 marks_in-legal-requires c =
@@ -69,45 +69,45 @@ first_illegal-wrong-requires c =
     let a = c.args in
     let fd = found a.header a.kinds.now a.firsts.now a.seconds.now a.flags.now in
     let pre = c.requires in
-    let Limits-of = c.limits_of-limits in
+    let limits = c.limits_of-limits in
     let shaped = c.shaped in
     let if1 = c.if-not-shaped in
-    let first-unchosen = c.first_unchosen-lacking in
+    let first_unchosen = c.first_unchosen-lacking in
     let if3 = c.if-lacking-limits in
-    all_chose a.session fd Limits-of.result Limits-of.ensures pre.game pre.accepted a.session.choices pre.is first-unchosen.result first-unchosen.ensures (well_shaped a.session fd Limits-of.result Limits-of.ensures pre.game pre.accepted a.session.choices pre.is shaped.result shaped.ensures if1.false) if3.false
+    all_chose a.session fd limits.result limits.ensures pre.game pre.accepted a.session.choices pre.is first_unchosen.result first_unchosen.ensures (well_shaped a.session fd limits.result limits.ensures pre.game pre.accepted a.session.choices pre.is shaped.result shaped.ensures if1.false) if3.false
 
 pub returns-then-wrong-limits : goal.returns-then-wrong-limits
 returns-then-wrong-limits c =
     let a = c.args in
     let fd = found a.header a.kinds.now a.firsts.now a.seconds.now a.flags.now in
-    let Limits-of = c.limits_of-limits in
+    let limits = c.limits_of-limits in
     let shaped = c.shaped in
     let if1 = c.if-not-shaped in
-    let marks-in = c.marks_in-ends in
+    let marks_in = c.marks_in-ends in
     let if2 = c.if-ends-eq1 in
-    let first-unchosen = c.first_unchosen-lacking in
+    let first_unchosen = c.first_unchosen-lacking in
     let if3 = c.if-lacking-limits in
-    let marks-in2 = c.marks_in-legal in
-    let first-illegal = c.first_illegal-wrong in
+    let marks_in2 = c.marks_in-legal in
+    let first_illegal = c.first_illegal-wrong in
     let if4 = c.if-wrong-limits in
-    λ G ok e. c.kept-then-wrong-limits.ensures ∙ play_illegal G a.session (well_shaped a.session fd Limits-of.result Limits-of.ensures G ok a.session.choices e shaped.result shaped.ensures if1.false) (goes_on_lem a.session fd Limits-of.result Limits-of.ensures G ok a.session.choices e marks-in.result marks-in.ensures if2.false) (none_lacks a.session fd Limits-of.result Limits-of.ensures G ok a.session.choices e first-unchosen.result first-unchosen.ensures if3.false) first-illegal.result (one_illegal a.session fd Limits-of.result Limits-of.ensures G ok a.session.choices e marks-in2.result marks-in2.ensures (all_chose a.session fd Limits-of.result Limits-of.ensures G ok a.session.choices e first-unchosen.result first-unchosen.ensures (well_shaped a.session fd Limits-of.result Limits-of.ensures G ok a.session.choices e shaped.result shaped.ensures if1.false) if3.false) first-illegal.result first-illegal.ensures if4.true)
+    λ G ok e. c.kept-then-wrong-limits.ensures ∙ play_illegal G a.session (well_shaped a.session fd limits.result limits.ensures G ok a.session.choices e shaped.result shaped.ensures if1.false) (goes_on_lem a.session fd limits.result limits.ensures G ok a.session.choices e marks_in.result marks_in.ensures if2.false) (none_lacks a.session fd limits.result limits.ensures G ok a.session.choices e first_unchosen.result first_unchosen.ensures if3.false) first_illegal.result (one_illegal a.session fd limits.result limits.ensures G ok a.session.choices e marks_in2.result marks_in2.ensures (all_chose a.session fd limits.result limits.ensures G ok a.session.choices e first_unchosen.result first_unchosen.ensures (well_shaped a.session fd limits.result limits.ensures G ok a.session.choices e shaped.result shaped.ensures if1.false) if3.false) first_illegal.result first_illegal.ensures if4.true)
 
 pub returns-then-session-eq65535 : goal.returns-then-session-eq65535
 returns-then-session-eq65535 c =
     let a = c.args in
     let fd = found a.header a.kinds.now a.firsts.now a.seconds.now a.flags.now in
-    let Limits-of = c.limits_of-limits in
+    let limits = c.limits_of-limits in
     let shaped = c.shaped in
     let if1 = c.if-not-shaped in
-    let marks-in = c.marks_in-ends in
+    let marks_in = c.marks_in-ends in
     let if2 = c.if-ends-eq1 in
-    let first-unchosen = c.first_unchosen-lacking in
+    let first_unchosen = c.first_unchosen-lacking in
     let if3 = c.if-lacking-limits in
-    let marks-in2 = c.marks_in-legal in
-    let first-illegal = c.first_illegal-wrong in
+    let marks_in2 = c.marks_in-legal in
+    let first_illegal = c.first_illegal-wrong in
     let if4 = c.if-wrong-limits in
     let if5 = c.if-session-eq65535 in
-    λ G ok e. c.kept-then-session-eq65535.ensures ∙ play_last G a.session (well_shaped a.session fd Limits-of.result Limits-of.ensures G ok a.session.choices e shaped.result shaped.ensures if1.false) (goes_on_lem a.session fd Limits-of.result Limits-of.ensures G ok a.session.choices e marks-in.result marks-in.ensures if2.false) (none_lacks a.session fd Limits-of.result Limits-of.ensures G ok a.session.choices e first-unchosen.result first-unchosen.ensures if3.false) (none_illegal a.session fd Limits-of.result Limits-of.ensures G ok a.session.choices e marks-in2.result marks-in2.ensures (all_chose a.session fd Limits-of.result Limits-of.ensures G ok a.session.choices e first-unchosen.result first-unchosen.ensures (well_shaped a.session fd Limits-of.result Limits-of.ensures G ok a.session.choices e shaped.result shaped.ensures if1.false) if3.false) first-illegal.result first-illegal.ensures if4.false) (eq-eqb a.session.round 65535 if5.true)
+    λ G ok e. c.kept-then-session-eq65535.ensures ∙ play_last G a.session (well_shaped a.session fd limits.result limits.ensures G ok a.session.choices e shaped.result shaped.ensures if1.false) (goes_on_lem a.session fd limits.result limits.ensures G ok a.session.choices e marks_in.result marks_in.ensures if2.false) (none_lacks a.session fd limits.result limits.ensures G ok a.session.choices e first_unchosen.result first_unchosen.ensures if3.false) (none_illegal a.session fd limits.result limits.ensures G ok a.session.choices e marks_in2.result marks_in2.ensures (all_chose a.session fd limits.result limits.ensures G ok a.session.choices e first_unchosen.result first_unchosen.ensures (well_shaped a.session fd limits.result limits.ensures G ok a.session.choices e shaped.result shaped.ensures if1.false) if3.false) first_illegal.result first_illegal.ensures if4.false) (eq-eqb a.session.round 65535 if5.true)
 
 pub marks_in-nexts-requires : goal.marks_in-nexts-requires
 marks_in-nexts-requires c =
@@ -124,28 +124,28 @@ overflow_add-next c =
     let a = c.args in
     let fd = found a.header a.kinds.now a.firsts.now a.seconds.now a.flags.now in
     let pre = c.requires in
-    let Limits-of = c.limits_of-limits in
+    let limits = c.limits_of-limits in
     let shaped = c.shaped in
     let if1 = c.if-not-shaped in
-    omega (arith, round_fits pre.game a.session (well_shaped a.session fd Limits-of.result Limits-of.ensures pre.game pre.accepted a.session.choices pre.is shaped.result shaped.ensures if1.false))
+    omega (arith, round_fits pre.game a.session (well_shaped a.session fd limits.result limits.ensures pre.game pre.accepted a.session.choices pre.is shaped.result shaped.ensures if1.false))
 
 pub returns : goal.returns
 returns c =
     let a = c.args in
     let fd = found a.header a.kinds.now a.firsts.now a.seconds.now a.flags.now in
-    let Limits-of = c.limits_of-limits in
+    let limits = c.limits_of-limits in
     let shaped = c.shaped in
     let if1 = c.if-not-shaped in
-    let marks-in = c.marks_in-ends in
+    let marks_in = c.marks_in-ends in
     let if2 = c.if-ends-eq1 in
-    let first-unchosen = c.first_unchosen-lacking in
+    let first_unchosen = c.first_unchosen-lacking in
     let if3 = c.if-lacking-limits in
-    let marks-in2 = c.marks_in-legal in
-    let first-illegal = c.first_illegal-wrong in
+    let marks_in2 = c.marks_in-legal in
+    let first_illegal = c.first_illegal-wrong in
     let if4 = c.if-wrong-limits in
     let if5 = c.if-session-eq65535 in
-    let marks-in3 = c.marks_in-nexts in
-    let first_Marks = c.first_marks in
+    let marks_in3 = c.marks_in-nexts in
+    let first_marks = c.first_marks in
     let no_choices = c.no_choices in
-    let marks-in4 = c.marks_in in
-    λ G ok e. ap (λ (x : Session). record { refusal = Success; session = x }) (record_is G ok a.session fd e marks-in3.result first_Marks.result no_choices.result marks-in4.result marks-in3.ensures first_Marks.ensures no_choices.ensures marks-in4.ensures) ∙ play_done G a.session (well_shaped a.session fd Limits-of.result Limits-of.ensures G ok a.session.choices e shaped.result shaped.ensures if1.false) (goes_on_lem a.session fd Limits-of.result Limits-of.ensures G ok a.session.choices e marks-in.result marks-in.ensures if2.false) (none_lacks a.session fd Limits-of.result Limits-of.ensures G ok a.session.choices e first-unchosen.result first-unchosen.ensures if3.false) (none_illegal a.session fd Limits-of.result Limits-of.ensures G ok a.session.choices e marks-in2.result marks-in2.ensures (all_chose a.session fd Limits-of.result Limits-of.ensures G ok a.session.choices e first-unchosen.result first-unchosen.ensures (well_shaped a.session fd Limits-of.result Limits-of.ensures G ok a.session.choices e shaped.result shaped.ensures if1.false) if3.false) first-illegal.result first-illegal.ensures if4.false) (ne_eqb a.session.round 65535 if5.false)
+    let marks_in4 = c.marks_in in
+    λ G ok e. ap (λ (x : Session). record { refusal = Success; session = x }) (record_is G ok a.session fd e marks_in3.result first_marks.result no_choices.result marks_in4.result marks_in3.ensures first_marks.ensures no_choices.ensures marks_in4.ensures) ∙ play_done G a.session (well_shaped a.session fd limits.result limits.ensures G ok a.session.choices e shaped.result shaped.ensures if1.false) (goes_on_lem a.session fd limits.result limits.ensures G ok a.session.choices e marks_in.result marks_in.ensures if2.false) (none_lacks a.session fd limits.result limits.ensures G ok a.session.choices e first_unchosen.result first_unchosen.ensures if3.false) (none_illegal a.session fd limits.result limits.ensures G ok a.session.choices e marks_in2.result marks_in2.ensures (all_chose a.session fd limits.result limits.ensures G ok a.session.choices e first_unchosen.result first_unchosen.ensures (well_shaped a.session fd limits.result limits.ensures G ok a.session.choices e shaped.result shaped.ensures if1.false) if3.false) first_illegal.result first_illegal.ensures if4.false) (ne_eqb a.session.round 65535 if5.false)

@@ -19,6 +19,6 @@ returns-in-Fault-read_game c = search (rules, table_laws)
 pub returns-in-Good-read_game : goal.returns-in-Good-read_game
 returns-in-Good-read_game c =
     let if1 = c.if-s-gt65535 in
-    let read-header = c.read_header in
-    let read-game = c.read_game in
-    all_table _ _ _ _ _ _ _ _ _ _ _ _ _ _ _ if1.false _ read-header.ensures _ _ c.in-Good.is _ read-game.ensures _ c.in-Good-read_game.is
+    let read_header = c.read_header in
+    let read_game = c.read_game in
+    all_table _ _ _ _ _ _ _ _ _ _ _ _ _ _ _ if1.false _ read_header.ensures _ _ c.in-Good.is _ read_game.ensures _ c.in-Good-read_game.is
