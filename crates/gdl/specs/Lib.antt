@@ -1,4 +1,5 @@
 pub mod Game
+pub mod Kinds
 pub mod Sets
 pub mod Standard
 pub mod Graph
