@@ -1,8 +1,6 @@
 -- The byte form of a record: its fields in their order, little endian, 512 + 16 + 2,048 + 4 = 2,580 bytes.
-use Rattle.std.specs.Prelude.{◌≡◌, true, false, cond, List, [], ◌∷◌, ◌++◌, ℕ, zero, suc, ◌+◌, ◌*◌, ◌/◌, ◌%◌, ◌<◌, eqb, length, get_or, take, drop}
+use Rattle.std.specs.Prelude.{◌≡◌, cond, Option, Some, None, List, [], ◌∷◌, ◌++◌, ℕ, zero, suc, ◌+◌, ◌*◌, ◌/◌, ◌%◌, ◌<◌, eqb, length, get_or, take, drop}
 use Rattle.session.specs.declared.Session.{Session}
-use Rattle.session.specs.declared.bytes.Read.{Read}
-use Rattle.session.specs.Shape.{blank_session}
 
 -- a number in so many bytes, the lowest first, and back
 abbrev pub little_endian : ℕ → ℕ → List ℕ
@@ -34,8 +32,8 @@ session_of bs = record {
 }
 
 -- what bytes say, however many: a record if there are 2,580, and else none
-unfoldable pub read_of : List ℕ → Read
-read_of bs = cond (eqb (length bs) 2580) (record { whole = true; session = session_of bs }) (record { whole = false; session = blank_session })
+unfoldable pub read_of : List ℕ → Option Session
+read_of bs = cond (eqb (length bs) 2580) (Some (session_of bs)) None
 
 -- numbers below a bound
 pub record Within (bound : ℕ) (l : List ℕ) : Type 0 where

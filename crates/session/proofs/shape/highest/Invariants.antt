@@ -1,11 +1,6 @@
--- None of the flags before k is above the highest.
-use Prim.Native.Nat.{◌-◌}
-use lib.ListN.{length}
+-- None of the flags passed is above the highest.
 use Rattle.session.specs.Runs.{Bounds}
 use Rattle.session.proofs.shape.highest.Given as goal
 
-abbrev pub invariant-loop-k : goal.invariant-loop-k
-invariant-loop-k l = Bounds l.flags l.k l.top
-
-abbrev pub decreases-loop-k : goal.decreases-loop-k
-decreases-loop-k l = length l.flags - l.k
+abbrev pub invariant-loop-flag : goal.invariant-loop-flag
+invariant-loop-flag l = Bounds l.flags l.flag-index l.top
