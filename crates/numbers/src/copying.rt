@@ -7,9 +7,5 @@ pub fn copy(part: &[u8], room: &mut [u8], at: usize)
     requires { at + length part.now ≤ length room.old }
     ensures { room.new ≡ sets room.old at part.now }
 {
-    let mut k: usize = 0;
-    while k < part.len() {
-        room[at + k] = part[k];
-        k += 1;
-    }
+    room[at..at + part.len()].copy_from_slice(part);
 }

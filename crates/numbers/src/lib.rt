@@ -7,11 +7,17 @@ ghost use Rattle.numbers.specs.Writing.{number_bytes, written_at};
 
 pub mod copying;
 
-// What stands at a place: a number with the place after it; a number that the input cuts off; a run of bytes that is not the
-// shortest form of its number; a run that says more than 65,535.
-#[derive(Clone, Copy)]
-pub enum Number {
-    Read(u16, usize),
+// A number that was read, and the place after it.
+#[derive(Clone, Copy, PartialEq, Eq, Debug)]
+pub struct Item {
+    pub value: u16,
+    pub next: usize,
+}
+
+// Why no number stands at a place: the input cuts it off; the run of bytes is not the shortest form of its number; it says more
+// than 65,535.
+#[derive(Clone, Copy, PartialEq, Eq, Debug)]
+pub enum Fault {
     Cut,
     Long,
     Large,
@@ -26,67 +32,69 @@ pub enum Run {
     Three(u16, u16, u16),
 }
 
-// A byte, ready for sums.
-fn wide(b: u8) -> u16
-    ensures { result ≡ b }
-{
-    b as u16
-}
-
 fn run_at(s: &[u8], at: usize) -> Run
     ensures { result ≡ run_at s.now at }
 {
     if s.len() <= at {
         return Run::Cut;
     }
-    let a = wide(s[at]);
+    let a = u16::from(s[at]);
     if a < 128 {
         return Run::One(a);
     }
     if s.len() <= at + 1 {
         return Run::Cut;
     }
-    let b = wide(s[at + 1]);
+    let b = u16::from(s[at + 1]);
     if b < 128 {
         return Run::Two(a, b);
     }
     if s.len() <= at + 2 {
         return Run::Cut;
     }
-    Run::Three(a, b, wide(s[at + 2]))
+    Run::Three(a, b, u16::from(s[at + 2]))
 }
 
-fn two(a: u16, b: u16, next: usize) -> Number
+fn two(a: u16, b: u16, next: usize) -> Result<Item, Fault>
     ensures { result ≡ number_of_two a b next }
 {
     if b == 0 {
-        return Number::Long;
+        return Err(Fault::Long);
     }
-    Number::Read(a % 128 + 128 * (b % 128), next)
+    Ok(Item {
+        value: a % 128 + 128 * (b % 128),
+        next,
+    })
 }
 
-fn three(a: u16, b: u16, c: u16, next: usize) -> Number
+fn three(a: u16, b: u16, c: u16, next: usize) -> Result<Item, Fault>
     ensures { result ≡ number_of_three a b c next }
 {
     if c == 0 {
-        return Number::Long;
+        return Err(Fault::Long);
     }
     if 128 <= c {
-        return Number::Large;
+        return Err(Fault::Large);
     }
-    let value = (a % 128) as u32 + 128 * ((b % 128) as u32) + 16384 * ((c % 128) as u32);
+    let value = u32::from(a % 128) + 128 * u32::from(b % 128) + 16384 * u32::from(c % 128);
     if 65535 < value {
-        return Number::Large;
+        return Err(Fault::Large);
     }
-    Number::Read(value as u16, next)
+    Ok(Item {
+        value: value as u16,
+        next,
+    })
 }
 
-pub fn read_number(s: &[u8], at: usize) -> Number
+pub fn read_number(s: &[u8], at: usize) -> Result<Item, Fault>
     ensures { result ≡ number_at s.now at }
 {
     match run_at(s, at) {
-        Run::Cut => Number::Cut,
-        Run::One(a) => Number::Read(a % 128, at + 1),
+        Run::Cut => Err(Fault::Cut),
+        Run::One(a) => Ok(Item {
+            value: a % 128,
+            next: at + 1,
+        }),
         Run::Two(a, b) => two(a, b, at + 2),
         Run::Three(a, b, c) => three(a, b, c, at + 3),
     }

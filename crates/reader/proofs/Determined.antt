@@ -3,7 +3,9 @@ use mathlib.Core.Path.{◌≡◌, sym, ◌∙◌}
 use mathlib.Core.List.{List}
 use Prim.Native.Nat.{ℕ}
 use denote.Ref.{Bor}
-use Rattle.numbers.specs.declared.Number.{Number}
+use Rattle.std.specs.Prelude.{Result}
+use Rattle.numbers.specs.declared.Item.{Item}
+use Rattle.numbers.specs.declared.Fault.{Fault}
 use Rattle.reader.specs.declared.Reader.{Reader}
 use Rattle.reader.specs.declared.Found.{Found}
 use Rattle.reader.specs.declared.ClauseStart.{ClauseStart}
@@ -18,7 +20,7 @@ Determines {W = W} Promise = (a b : W) → Promise a → Promise b → a ≡ b
 pub record Determined (s : List ℕ) : Type 0 where
   pub of_step : (at : ℕ) → Determines (λ (f : Found). f ≡ found_at s at)
   pub of_start : (table : Bor (List ℕ)) (at : ℕ) → Determines (λ (ρ : Reader). ρ ≡ reader_at table at)
-  pub of_next : (ρ : Reader) → Determines (λ (a : Number × Reader). a ≡ read_next ρ)
+  pub of_next : (ρ : Reader) → Determines (λ (a : Result Item Fault × Reader). a ≡ read_next ρ)
   pub of_place : (ρ : Reader) → Determines (λ (n : ℕ). n ≡ ρ.at)
   pub of_clause_start : (at : ℕ) → Determines (λ (r : ClauseStart). r ≡ clause_start s at)
 

@@ -1,19 +1,17 @@
 -- "A reading place in the table goes on from record to record": what a reader reads, and where it then stands.
-use Rattle.std.specs.Prelude.{ℕ, List}
+use Rattle.std.specs.Prelude.{ℕ, List, Result, Ok, Err}
 use Rattle.std.specs.Borrow.{Bor}
-use Rattle.numbers.specs.declared.Number.{Number}
-use Rattle.numbers.specs.declared.Number.TheVariants.{Read, Cut, Long, Large}
+use Rattle.numbers.specs.declared.Item.{Item}
+use Rattle.numbers.specs.declared.Fault.{Fault}
 use Rattle.numbers.specs.Number.{number_at}
 use Rattle.reader.specs.declared.Reader.{Reader}
 use Rattle.reader.specs.declared.Found.{Found}
 use Rattle.reader.specs.declared.ClauseStart.{ClauseStart}
 
 -- the place after a number that was read; where none was read, the place itself
-abbrev pub after : Number → ℕ → ℕ
-after (Read v next) at = next
-after Cut at = at
-after Long at = at
-after Large at = at
+abbrev pub after : Result Item Fault → ℕ → ℕ
+after (Ok i) at = i.next
+after (Err f) at = at
 
 -- the number that starts at a place of a table, and where to go on
 abbrev pub found_at : List ℕ → ℕ → Found
@@ -24,7 +22,7 @@ abbrev pub reader_at : Bor (List ℕ) → ℕ → Reader
 reader_at table at = record { table = table; at = at }
 
 -- what a reader reads, and the reader after that: it reads the same table, and has gone on
-abbrev pub read_next : Reader → Number × Reader
+abbrev pub read_next : Reader → Result Item Fault × Reader
 read_next ρ =
     let found : Found = found_at ρ.table.now ρ.at in
     (found.number, reader_at ρ.table found.next)

@@ -4,7 +4,7 @@
 ghost use Rattle.std.specs.Prelude.{◌≡◌};
 ghost use Rattle.reader.specs.Reading.{after, found_at, reader_at, read_next, clause_start};
 
-use numbers::Number;
+use numbers::{Fault, Item};
 
 #[derive(Clone, Copy)]
 pub struct Reader<'a> {
@@ -15,19 +15,17 @@ pub struct Reader<'a> {
 // What stands at a place of a table, and the place to go on from.
 #[derive(Clone, Copy)]
 pub struct Found {
-    pub number: Number,
+    pub number: Result<Item, Fault>,
     pub next: usize,
 }
 
 // A fault keeps the place, so that the refusal can name it.
-fn after(number: Number, at: usize) -> usize
+fn after(number: Result<Item, Fault>, at: usize) -> usize
     ensures { result ≡ after number at }
 {
     match number {
-        Number::Read(_, next) => next,
-        Number::Cut => at,
-        Number::Long => at,
-        Number::Large => at,
+        Ok(item) => item.next,
+        Err(_) => at,
     }
 }
 
@@ -48,7 +46,7 @@ pub fn start<'a>(table: &'a [u8], at: usize) -> Reader<'a>
 }
 
 // Reads the number at the reader's place, and moves the reader on.
-pub fn next<'s, 'a>(reader: &'s mut Reader<'a>) -> Number
+pub fn next<'s, 'a>(reader: &'s mut Reader<'a>) -> Result<Item, Fault>
     ensures { (result, reader.new) ≡ read_next reader.old }
 {
     let found = step(reader.table, reader.at);
@@ -66,8 +64,8 @@ pub fn place<'a>(reader: Reader<'a>) -> usize
 // How a clause record begins: the numbers of its head and of its count of literals, and the place where the literals start.
 #[derive(Clone, Copy)]
 pub struct ClauseStart {
-    pub head: Number,
-    pub count: Number,
+    pub head: Result<Item, Fault>,
+    pub count: Result<Item, Fault>,
     pub literals: usize,
 }
 

@@ -5,7 +5,7 @@ ghost use Rattle.std.specs.Prelude.{◌≡◌};
 ghost use Rattle.refusals.specs.Refusal.{number_of, place_of};
 
 // A case holds its place where that is not always 0: a byte of the table, a clause, an atom or a seat, as the row says.
-#[derive(Clone, Copy)]
+#[derive(Clone, Copy, PartialEq, Eq, Debug)]
 pub enum Refusal {
     Success,
     InputEnds(usize),
@@ -66,28 +66,20 @@ pub fn place_of(r: Refusal) -> usize
     ensures { result ≡ place_of r }
 {
     match r {
-        Refusal::InputEnds(p) => p,
-        Refusal::NotANumber(p) => p,
-        Refusal::OutOfRange(p) => p,
-        Refusal::NotAbove(p) => p,
-        Refusal::BytesAfter(p) => p,
-        Refusal::RoleWithBody(p) => p,
-        Refusal::NeverHead(p) => p,
-        Refusal::NeverInBody(p) => p,
-        Refusal::InitRule(p) => p,
-        Refusal::DoesRule(p) => p,
-        Refusal::NoLevels(p) => p,
-        Refusal::NoRoleFact(p) => p,
-        Refusal::NotLegal(p) => p,
-        Refusal::NoChoice(p) => p,
-        Refusal::Success => 0,
-        Refusal::TableTooLong => 0,
-        Refusal::RoomTooShort => 0,
-        Refusal::NoSuchSeat => 0,
-        Refusal::NoSuchMove => 0,
-        Refusal::AlreadyChosen => 0,
-        Refusal::GameOver => 0,
-        Refusal::BadShape => 0,
-        Refusal::LastRound => 0,
+        Refusal::InputEnds(place)
+        | Refusal::NotANumber(place)
+        | Refusal::OutOfRange(place)
+        | Refusal::NotAbove(place)
+        | Refusal::BytesAfter(place)
+        | Refusal::RoleWithBody(place)
+        | Refusal::NeverHead(place)
+        | Refusal::NeverInBody(place)
+        | Refusal::InitRule(place)
+        | Refusal::DoesRule(place)
+        | Refusal::NoLevels(place)
+        | Refusal::NoRoleFact(place)
+        | Refusal::NotLegal(place)
+        | Refusal::NoChoice(place) => place,
+        _ => 0,
     }
 }

@@ -1,8 +1,9 @@
 -- Reading, as a definition: a reader goes from the bytes and a place to a value and the place after it, or to a refusal with its place.
-use Rattle.std.specs.Prelude.{ℕ, ◌+◌, List, Bool, true, false, ltb, leb, length, if◌then◌else◌}
+use Rattle.std.specs.Prelude.{ℕ, ◌+◌, List, Bool, true, false, ltb, leb, length, if◌then◌else◌, Result, Ok, Err}
 use Rattle.numbers.specs.Number.{number_at}
-use Rattle.numbers.specs.declared.Number.{Number}
-use Rattle.numbers.specs.declared.Number.TheVariants.{Read, Cut, Long, Large}
+use Rattle.numbers.specs.declared.Item.{Item}
+use Rattle.numbers.specs.declared.Fault.{Fault}
+use Rattle.numbers.specs.declared.Fault.TheVariants.{Cut, Long, Large}
 use Rattle.refusals.specs.declared.Refusal.{Refusal}
 use Rattle.refusals.specs.declared.Refusal.TheVariants.{InputEnds, NotANumber, OutOfRange}
 
@@ -38,12 +39,16 @@ abbrev pub refuse◌if◌ : Refusal → Bool → Reader (Unit {0})
 (refuse f if true) s at = fault f
 (refuse f if false) s at = ok tt at
 
--- "a number faulty as a number is not tested for range"; "number not shortest, or over 65,535" are one fault
-abbrev pub in_range : ℕ → ℕ → ℕ → Number → Parse ℕ
-in_range lo end at (Read v n) = if ltb v lo then fault (OutOfRange at) else if leb end v then fault (OutOfRange at) else ok v n
-in_range lo end at Cut = fault (InputEnds at)
-in_range lo end at Long = fault (NotANumber at)
-in_range lo end at Large = fault (NotANumber at)
+-- "input ends inside or before a number"; "number not shortest, or over 65,535" are one fault
+abbrev pub refusal_of : Fault → ℕ → Refusal
+refusal_of Cut at = InputEnds at
+refusal_of Long at = NotANumber at
+refusal_of Large at = NotANumber at
+
+-- "a number faulty as a number is not tested for range"
+abbrev pub in_range : ℕ → ℕ → ℕ → Result Item Fault → Parse ℕ
+in_range lo end at (Ok i) = if ltb i.value lo then fault (OutOfRange at) else if leb end i.value then fault (OutOfRange at) else ok i.value i.next
+in_range lo end at (Err f) = fault (refusal_of f at)
 
 -- a number from lo up to but not at end
 unfoldable pub bounded : ℕ → ℕ → Reader ℕ

@@ -4,12 +4,12 @@ ghost use Rattle.std.proofs.lemmas.List.Edits.{sets};
 ghost use Rattle.table.specs.Table.{literals, clause, clauses_from};
 ghost use Rattle.table.specs.Says.{WroteLiterals, WroteClause, WroteClauses};
 
-use crate::atoms::Records;
-use crate::fields::Field;
+use crate::fields::read_field;
+use crate::tables::ClauseRoom;
 use gdl::Atom;
 use refusals::Refusal;
 
-// Reads count literals, each below end, into the room from used on.
+// Reads count literals, each below end, into the room from used on, and answers the place after them.
 fn read_literals(
     s: &[u8],
     at: usize,
@@ -17,24 +17,17 @@ fn read_literals(
     end: u32,
     room: &mut [u16; 8192],
     used: usize,
-) -> Records
+) -> Result<usize, Refusal>
     requires { used + count ≤ 8192 }
     ensures { WroteLiterals (literals count end s.now at) room.old used result room.new }
 {
-    let n = count as usize;
-    let mut k: usize = 0;
     let mut next = at;
-    while k < n {
-        match crate::fields::read_field(s, next, 0, end) {
-            Field::Fault(f) => return Records::Fault(f),
-            Field::Value(i) => {
-                room[used + k] = i.value;
-                next = i.next;
-                k += 1;
-            }
-        }
+    for k in 0..usize::from(count) {
+        let literal = read_field(s, next, 0, end)?;
+        room[used + k] = literal.value;
+        next = literal.next;
     }
-    Records::Good(next)
+    Ok(next)
 }
 
 // A clause, less its literals.
@@ -44,84 +37,53 @@ pub struct Outline {
     pub count: u16,
 }
 
-#[derive(Clone, Copy)]
-pub enum ClauseRead {
-    Good(Outline, usize),
-    Fault(Refusal),
-}
-
-// Reads a clause, its literals into the room from used on.
-fn read_clause(s: &[u8], at: usize, atoms: u16, room: &mut [u16; 8192], used: usize) -> ClauseRead
+// Reads a clause, its literals into the room from used on; with it goes the place after it.
+fn read_clause(
+    s: &[u8],
+    at: usize,
+    atoms: u16,
+    room: &mut [u16; 8192],
+    used: usize,
+) -> Result<(Outline, usize), Refusal>
     requires { used ≤ 8192 }
     ensures { WroteClause (clause atoms (8192 - used) s.now at) room.old used result room.new }
 {
-    let head = match crate::fields::read_field(s, at, 0, atoms as u32) {
-        Field::Value(i) => i,
-        Field::Fault(f) => return ClauseRead::Fault(f),
-    };
-    let count = match crate::fields::read_field(s, head.next, 0, 65) {
-        Field::Value(i) => i,
-        Field::Fault(f) => return ClauseRead::Fault(f),
-    };
-    if 8192 - used < count.value as usize {
-        return ClauseRead::Fault(Refusal::OutOfRange(head.next));
+    let head = read_field(s, at, 0, u32::from(atoms))?;
+    let count = read_field(s, head.next, 0, 65)?;
+    if 8192 - used < usize::from(count.value) {
+        return Err(Refusal::OutOfRange(head.next));
     }
-    match read_literals(s, count.next, count.value, 2 * (atoms as u32), room, used) {
-        Records::Fault(f) => ClauseRead::Fault(f),
-        Records::Good(n) => ClauseRead::Good(
-            Outline {
-                head: Atom(head.value),
-                count: count.value,
-            },
-            n,
-        ),
-    }
+    let next = read_literals(s, count.next, count.value, 2 * u32::from(atoms), room, used)?;
+    let outline = Outline {
+        head: Atom(head.value),
+        count: count.value,
+    };
+    Ok((outline, next))
 }
 
-// Writes the head of a clause for each of its literals.
-fn own(owners: &mut [u16; 8192], used: usize, count: u16, head: u16)
-    requires { used + count ≤ 8192 }
-    ensures { owners.new ≡ sets owners.old used (replicate count head) }
-{
-    let n = count as usize;
-    let mut k: usize = 0;
-    while k < n {
-        owners[used + k] = head;
-        k += 1;
-    }
-}
-
-// Reads the clause records into lent arrays: the heads, where each clause's literals start, the literals, and the head of each.
+// Reads the clause records into lent room, and answers the place after them.
 pub fn read_clauses(
     s: &[u8],
     at: usize,
     many: u16,
     atoms: u16,
-    heads: &mut [u16; 2048],
-    starts: &mut [u16; 2049],
-    literals: &mut [u16; 8192],
-    owners: &mut [u16; 8192],
-) -> Records
+    room: &mut ClauseRoom,
+) -> Result<usize, Refusal>
     requires { many ≤ 2048 }
-    ensures { WroteClauses (clauses_from many atoms 8192 s.now at) heads.old starts.old literals.old owners.old result heads.new starts.new literals.new owners.new }
+    ensures { WroteClauses (clauses_from many atoms 8192 s.now at) room.old result room.new }
 {
-    let n = many as usize;
+    let n = usize::from(many);
     let mut used: usize = 0;
-    let mut k: usize = 0;
     let mut next = at;
-    while k < n {
-        match read_clause(s, next, atoms, literals, used) {
-            ClauseRead::Fault(f) => return Records::Fault(f),
-            ClauseRead::Good(c, end) => {
-                own(owners, used, c.count, c.head.0);
-                heads[k] = c.head.0;
-                starts[k] = used as u16;
-                used += c.count as usize;
-                next = end;
-                k += 1;
-            }
-        }
+    for k in 0..n {
+        let (c, end) = read_clause(s, next, atoms, &mut room.literals, used)?;
+        let count = usize::from(c.count);
+        room.owners[used..used + count].fill(c.head.0);
+        room.heads[k] = c.head.0;
+        room.starts[k] = used as u16;
+        used += count;
+        next = end;
     }
-    starts[n] = used as u16;
-    Records::Good(next)
+    room.starts[n] = used as u16;
+    Ok(next)
 }

@@ -1,40 +1,31 @@
 // A number within its range.
 ghost use Rattle.std.specs.Prelude.{◌≡◌};
-ghost use Rattle.table.specs.Parse.{bounded};
+ghost use Rattle.table.specs.Parse.{bounded, refusal_of};
 ghost use Rattle.table.specs.Says.{field_says};
 
-use numbers::Number;
+use numbers::{Fault, Item};
 use refusals::Refusal;
 
-// A number that was read, and the place after it.
-#[derive(Clone, Copy)]
-pub struct Item {
-    pub value: u16,
-    pub next: usize,
-}
-
-#[derive(Clone, Copy)]
-pub enum Field {
-    Value(Item),
-    Fault(Refusal),
+// The refusal of a table in which no number stands at a place.
+fn refusal_of(fault: Fault, at: usize) -> Refusal
+    ensures { result ≡ refusal_of fault at }
+{
+    match fault {
+        Fault::Cut => Refusal::InputEnds(at),
+        Fault::Long | Fault::Large => Refusal::NotANumber(at),
+    }
 }
 
 // A number from `lo` up to but not at `end`.
-pub fn read_field(s: &[u8], at: usize, lo: u16, end: u32) -> Field
+pub fn read_field(s: &[u8], at: usize, lo: u16, end: u32) -> Result<Item, Refusal>
     ensures { field_says result ≡ bounded lo end s.now at }
 {
-    match numbers::read_number(s, at) {
-        Number::Read(v, next) => {
-            if v < lo {
-                return Field::Fault(Refusal::OutOfRange(at));
-            }
-            if end <= v as u32 {
-                return Field::Fault(Refusal::OutOfRange(at));
-            }
-            Field::Value(Item { value: v, next })
-        }
-        Number::Cut => Field::Fault(Refusal::InputEnds(at)),
-        Number::Long => Field::Fault(Refusal::NotANumber(at)),
-        Number::Large => Field::Fault(Refusal::NotANumber(at)),
+    let item = match numbers::read_number(s, at) {
+        Ok(item) => item,
+        Err(fault) => return Err(refusal_of(fault, at)),
+    };
+    if item.value < lo || end <= u32::from(item.value) {
+        return Err(Refusal::OutOfRange(at));
     }
+    Ok(item)
 }
