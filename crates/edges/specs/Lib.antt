@@ -1,4 +1,5 @@
 pub mod Graph
 pub mod Closure
 pub mod Uses
+pub mod Queue
 pub mod Marks

@@ -1,71 +1,61 @@
--- The marks and the queue of a closure: what its steps ask for, and what each gives.
-use Rattle.std.specs.Prelude.{◌≡◌, ◌⊎◌, List, ℕ, ◌+◌, ◌<◌, ◌≤◌, T, length, get_or, set, take, replicate}
+-- The worklist of a closure: what its steps ask for, and what each gives.
+use Rattle.std.specs.Prelude.{◌≡◌, ◌⊎◌, List, ℕ, ◌+◌, ◌<◌, ◌≤◌, T, length, get_or, set, take}
 use Rattle.gdl.specs.Sets.{Atoms}
 use Rattle.gdl.specs.Flags.{count}
-use Rattle.edges.specs.Closure.{Shut, Back}
-use Rattle.edges.specs.Uses.{Index}
-
--- no node is marked, and none queued
-unfoldable pub no_marks : List ℕ
-no_marks = replicate 1024 0
+use Rattle.edges.specs.Closure.{Shut}
+use Rattle.edges.specs.Queue.{Seeded}
+use Rattle.edges.specs.declared.worklist.Worklist.{Worklist}
 
 -- ---- one node
 
--- a queue of n places has room for a node that is not marked, since each marked node is queued once
-pub record Room (m : List ℕ) (n : ℕ) : Type 0 where
-  pub long : length m ≡ 1024
-  pub room : n ≤ count m
+-- p is marked, and not every marked node is queued
+pub record Pushable (p : ℕ) (w : Worklist) : Type 0 where
+  pub node : p < 1024
+  pub marked : get_or w.marks p 0 ≡ 1
+  pub room : w.many < count w.marks
 
--- node h can be marked
-pub record Markable (h : ℕ) (m : List ℕ) (n : ℕ) : Type 0 where
-  pub node : h < 1024
-  pub has : Room m n
+-- p stands at the end of the queue
+pub record Pushed (p : ℕ) (w w' : Worklist) : Type 0 where
+  pub marks : w'.marks ≡ w.marks
+  pub queue : w'.queue ≡ set w.queue w.many p
+  pub many : w'.many ≡ w.many + 1
 
--- marks m, queue q and its number n stay as they were
-pub record Stays (m q : List ℕ) (n : ℕ) (m' q' : List ℕ) (n' : ℕ) : Type 0 where
-  pub marks : m' ≡ m
-  pub queue : q' ≡ q
-  pub many : n' ≡ n
+-- the worklist stays as it was
+pub record Stays (w w' : Worklist) : Type 0 where
+  pub marks : w'.marks ≡ w.marks
+  pub queue : w'.queue ≡ w.queue
+  pub many : w'.many ≡ w.many
 
 -- h is marked, and stands at the end of the queue
-pub record Joins (h : ℕ) (m q : List ℕ) (n : ℕ) (m' q' : List ℕ) (n' : ℕ) : Type 0 where
-  pub marks : m' ≡ set m h 1
-  pub queue : q' ≡ set q n h
-  pub many : n' ≡ n + 1
+pub record Joins (h : ℕ) (w w' : Worklist) : Type 0 where
+  pub marks : w'.marks ≡ set w.marks h 1
+  pub queue : w'.queue ≡ set w.queue w.many h
+  pub many : w'.many ≡ w.many + 1
 
 -- h joins, if it was not marked
-abbrev pub Marked : ℕ → List ℕ → List ℕ → ℕ → List ℕ → List ℕ → ℕ → Type 0
-Marked h m q n m' q' n' = ((get_or m h 0 ≡ 1) × Stays m q n m' q' n') ⊎ ((get_or m h 0 ≡ 1 → ⊥) × Joins h m q n m' q' n')
+abbrev pub Marked : ℕ → Worklist → Worklist → Type 0
+Marked h w w' = ((get_or w.marks h 0 ≡ 1) × Stays w w') ⊎ ((get_or w.marks h 0 ≡ 1 → ⊥) × Joins h w w')
 
 -- ---- some nodes
 
--- p stands in the queue, at a place from `at` up to `n`
-pub record Waits (q : List ℕ) (at n p : ℕ) : Type 0 where
+-- p stands in the queue, at a place from `at` on
+pub record Waits (w : Worklist) (at p : ℕ) : Type 0 where
   pub j : ℕ
   pub from : at ≤ j
-  pub to : j < n
-  pub is : get_or q j 0 ≡ p
-
--- the marks m and the queue q of n nodes: each that is queued is marked
-pub record Queue (m q : List ℕ) (n : ℕ) : Type 0 where
-  pub marked : (j : ℕ) → j < n → get_or m (get_or q j 0) 0 ≡ 1
-  pub nodes : (j : ℕ) → j < n → get_or q j 0 < 1024
-  pub flags : (p : ℕ) → get_or m p 0 ≤ 1
-  pub has : Room m n
-  pub queue_long : length q ≡ 1024
+  pub to : j < w.many
+  pub is : get_or w.queue j 0 ≡ p
 
 -- nodes for which P holds joined: no mark is lost, and each new one waits behind the others
-pub record Joined (P : ℕ → Type 0) (m q : List ℕ) (n : ℕ) (m' q' : List ℕ) (n' : ℕ) : Type 0 where
-  pub keeps : (p : ℕ) → get_or m p 0 ≡ 1 → get_or m' p 0 ≡ 1
-  pub new : (p : ℕ) → get_or m' p 0 ≡ 1 → (get_or m p 0 ≡ 1) ⊎ (P p × Waits q' n n' p)
-  pub before : (j : ℕ) → j < n → get_or q' j 0 ≡ get_or q j 0
-  pub more : n ≤ n'
-  pub queue : Queue m' q' n'
+pub record Joined (P : ℕ → Type 0) (w w' : Worklist) : Type 0 where
+  pub keeps : (p : ℕ) → get_or w.marks p 0 ≡ 1 → get_or w'.marks p 0 ≡ 1
+  pub new : (p : ℕ) → get_or w'.marks p 0 ≡ 1 → (get_or w.marks p 0 ≡ 1) ⊎ (P p × Waits w' w.many p)
+  pub before : (j : ℕ) → j < w.many → get_or w'.queue j 0 ≡ get_or w.queue j 0
+  pub more : w.many ≤ w'.many
 
 -- and all of these are marked
-pub record Brought (P : ℕ → Type 0) (m q : List ℕ) (n : ℕ) (m' q' : List ℕ) (n' : ℕ) : Type 0 where
-  pub joined : Joined P m q n m' q' n'
-  pub all : (h : ℕ) → P h → get_or m' h 0 ≡ 1
+pub record Brought (P : ℕ → Type 0) (w w' : Worklist) : Type 0 where
+  pub joined : Joined P w w'
+  pub all : (h : ℕ) → P h → get_or w'.marks h 0 ≡ 1
 
 -- ---- all marks so far
 
@@ -74,10 +64,9 @@ pub record Done (Brings : ℕ → ℕ → Type 0) (m : List ℕ) (p : ℕ) : Typ
   pub at : (h : ℕ) → Brings p h → get_or m h 0 ≡ 1
 
 -- of the queue those before `at` are done: each marked node is done or waits
-pub record Work (Brings : ℕ → ℕ → Type 0) (m q : List ℕ) (at n : ℕ) : Type 0 where
-  pub each : (p : ℕ) → get_or m p 0 ≡ 1 → Done Brings m p ⊎ Waits q at n p
-  pub queue : Queue m q n
-  pub order : at ≤ n
+pub record Work (Brings : ℕ → ℕ → Type 0) (w : Worklist) (at : ℕ) : Type 0 where
+  pub each : (p : ℕ) → get_or w.marks p 0 ≡ 1 → Done Brings w.marks p ⊎ Waits w at p
+  pub order : at ≤ w.many
 
 -- the marks m became m': none is lost, and every set that is shut and holds m holds m'
 pub record Grew (Brings : ℕ → ℕ → Type 0) (m m' : List ℕ) : Type 0 where
@@ -85,47 +74,28 @@ pub record Grew (Brings : ℕ → ℕ → Type 0) (m m' : List ℕ) : Type 0 whe
   pub least : (Y : Atoms) → Shut Brings Y → ((p : ℕ) → get_or m p 0 ≡ 1 → T (Y p)) → (p : ℕ) → get_or m' p 0 ≡ 1 → T (Y p)
 
 -- a node waits at `at`
-pub record Turn (Brings : ℕ → ℕ → Type 0) (m q : List ℕ) (at n : ℕ) : Type 0 where
-  pub work : Work Brings m q at n
-  pub waits : at < n
+pub record Turn (Brings : ℕ → ℕ → Type 0) (w : Worklist) (at : ℕ) : Type 0 where
+  pub work : Work Brings w at
+  pub waits : at < w.many
 
 -- that node is done
-pub record Visited (Brings : ℕ → ℕ → Type 0) (m : List ℕ) (at : ℕ) (m' q' : List ℕ) (n' : ℕ) : Type 0 where
-  pub grew : Grew Brings m m'
-  pub work : Work Brings m' q' (at + 1) n'
-
--- a node waits at `at`, and the edges are indexed
-pub record Visit (from to first next m q : List ℕ) (at n : ℕ) : Type 0 where
-  pub index : Index from to first next
-  pub turn : Turn (Back from to) m q at n
+pub record Visited (Brings : ℕ → ℕ → Type 0) (w : Worklist) (at : ℕ) (w' : Worklist) : Type 0 where
+  pub grew : Grew Brings w.marks w'.marks
+  pub work : Work Brings w' (at + 1)
 
 -- ---- the seeds
 
 -- nothing is done yet: each marked node waits
-pub record Waiting (m q : List ℕ) (n : ℕ) : Type 0 where
-  pub queue : Queue m q n
-  pub waits : (p : ℕ) → get_or m p 0 ≡ 1 → Waits q 0 n p
+pub record Waiting (w : Worklist) : Type 0 where
+  pub waits : (p : ℕ) → get_or w.marks p 0 ≡ 1 → Waits w 0 p
 
--- marks that are 0 or 1, none set from `size` on
-pub record Seeded (m : List ℕ) (size : ℕ) : Type 0 where
-  pub few : size ≤ 1024
-  pub long : length m ≡ 1024
-  pub flags : (p : ℕ) → get_or m p 0 ≤ 1
-  pub past : (p : ℕ) → size ≤ p → get_or m p 0 ≡ 0
+-- marks, and nothing is queued yet
+pub record Ungathered (w : Worklist) (size : ℕ) : Type 0 where
+  pub seeded : Seeded w.marks size
+  pub empty : w.many ≡ 0
 
--- node p goes to the end of the queue, if its mark is 1
-abbrev pub Lined : ℕ → ℕ → List ℕ → ℕ → List ℕ → ℕ → Type 0
-Lined x p q n q' n' = ((x ≡ 1) × (q' ≡ set q n p) × (n' ≡ n + 1)) ⊎ ((x ≡ 1 → ⊥) × (q' ≡ q) × (n' ≡ n))
-
--- the marked nodes below p are queued, and nothing else
-pub record Gathered (m q : List ℕ) (p n : ℕ) : Type 0 where
-  pub marked : (j : ℕ) → j < n → get_or m (get_or q j 0) 0 ≡ 1
-  pub nodes : (j : ℕ) → j < n → get_or q j 0 < 1024
-  pub waits : (j : ℕ) → j < p → get_or m j 0 ≡ 1 → Waits q 0 n j
-  pub room : n ≤ count (take p m)
-  pub queue_long : length q ≡ 1024
-
--- marks, and edges with their index
-pub record Closable (from to first next m : List ℕ) (size : ℕ) : Type 0 where
-  pub index : Index from to first next
-  pub seeded : Seeded m size
+-- the marks are m, and of them the marked nodes below p are queued, and nothing else
+pub record Gathered (m : List ℕ) (w : Worklist) (p : ℕ) : Type 0 where
+  pub marks : w.marks ≡ m
+  pub waits : (j : ℕ) → j < p → get_or m j 0 ≡ 1 → Waits w 0 j
+  pub room : w.many ≤ count (take p m)

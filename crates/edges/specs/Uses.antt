@@ -2,6 +2,7 @@
 use Rattle.std.specs.Prelude.{◌≡◌, List, ℕ, suc, ◌<◌, ◌≤◌, length, get_or, replicate}
 use Rattle.edges.specs.Graph.{end_of}
 use Rattle.edges.specs.Closure.{Sized}
+use Rattle.edges.specs.declared.uses.Uses.{Uses}
 
 -- ---- any places that use nodes: so many places, and a number `past` them that says 'no more'
 
@@ -47,11 +48,11 @@ no_uses = replicate 1024 8192
 unfoldable pub no_nexts : List ℕ
 no_nexts = replicate 8192 8192
 
--- edges, and arrays for their index that know no use yet
-pub record Unindexed (to first next : List ℕ) : Type 0 where
+-- edges, and an index that knows no use yet
+pub record Unindexed (to : List ℕ) (uses : Uses) : Type 0 where
   pub ends : Ends to
-  pub no_firsts : first ≡ no_uses
-  pub empty_nexts : next ≡ no_nexts
+  pub no_firsts : uses.first ≡ no_uses
+  pub empty_nexts : uses.next ≡ no_nexts
 
 -- the index of the edges from `low` on, and of all
 abbrev pub EdgesFrom : List ℕ → List ℕ → List ℕ → ℕ → Type 0
@@ -60,7 +61,7 @@ EdgesFrom to first next low = IndexedFrom (EndsAt to) (length to) 8192 1024 8192
 abbrev pub Indexed : List ℕ → List ℕ → List ℕ → Type 0
 Indexed to first next = EdgesFrom to first next 0
 
--- edges with their index, as the closure takes them
+-- edges with their index, as `Edges` holds them
 pub record Index (from to first next : List ℕ) : Type 0 where
   pub sized : Sized from to
   pub chained : Chained (EndsAt to) (length to) 8192 1024 first next 0

@@ -2,13 +2,19 @@
 // That the closure ends within 1,024 visits of nodes is proved; the counts of edges in the comments are read off the loops.
 #![tactic(auto)]
 
-ghost use Rattle.std.specs.Prelude.{◌≡◌};
+ghost use Rattle.edges.specs.Uses.{Index};
 
 pub mod marks;
 pub mod uses;
+pub mod worklist;
 
-fn wide(x: u16) -> usize
-    ensures { result ≡ x }
-{
-    x as usize
+use uses::Uses;
+
+// The edges of the graph, each from an owner to a literal's atom, and their index by these ends.
+#[derive(Clone, Copy)]
+pub struct Edges<'a> {
+    pub from: &'a [u16],
+    pub to: &'a [u16],
+    pub uses: &'a Uses,
+    pub ghost indexed: { Index from.now to.now uses.now.first uses.now.next },
 }
