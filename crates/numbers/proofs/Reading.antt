@@ -8,10 +8,12 @@ use mathlib.Core.List.{List}
 use lib.ListN.{length, get_or}
 use lib.Dec.{leb, ltb, eqb}
 use borrow.Author.Tests.{leb-false, ltb-false, le-ltb, lt-ltb, le-leb, lt-leb, eq-eqb, ne_eqb}
-use Rattle.numbers.specs.Number.{run_at, number_of, number_of_two, number_of_three, number_at}
-use Rattle.numbers.specs.declared.Number.{Number}
-use Rattle.numbers.specs.declared.Number.TheVariants.{Read, Long, Large}
-use Rattle.numbers.specs.declared.Number.TheVariants as N
+use Rattle.numbers.specs.Number.{read, run_at, number_of, number_of_two, number_of_three, number_at}
+use Rattle.std.specs.Prelude.{Result, Ok, Err}
+use Rattle.numbers.specs.declared.Item.{Item}
+use Rattle.numbers.specs.declared.Fault.{Fault}
+use Rattle.numbers.specs.declared.Fault.TheVariants.{Long, Large}
+use Rattle.numbers.specs.declared.Fault.TheVariants as F
 use Rattle.numbers.specs.declared.Run.{Run}
 use Rattle.numbers.specs.declared.Run.TheVariants.{Cut, One, Two, Three}
 
@@ -54,30 +56,30 @@ pub ruleset runs = (cut_1, one, cut_2, two, cut_3, three)
 -- ---- the number of two bytes, and of three
 
 module _ (a b next : ℕ) where
-  pub two_long : b ≡ 0 → Long ≡ number_of_two a b next
+  pub two_long : b ≡ 0 → Err Long ≡ number_of_two a b next
   unfolding number_of_two
   two_long h = simp (number_of_two, eq-eqb)
 
-  pub two_read : (b ≡ 0 → ⊥) → Read (a % 128 + 128 * (b % 128)) next ≡ number_of_two a b next
+  pub two_read : (b ≡ 0 → ⊥) → read (a % 128 + 128 * (b % 128)) next ≡ number_of_two a b next
   unfolding number_of_two
   two_read h = simp (number_of_two, ne_eqb)
 
   module _ (c : ℕ) where
-    pub three_long : c ≡ 0 → Long ≡ number_of_three a b c next
+    pub three_long : c ≡ 0 → Err Long ≡ number_of_three a b c next
     unfolding number_of_three
     three_long h = simp (number_of_three, eq-eqb)
 
     module _ (n : c ≡ 0 → ⊥) where
-      pub three_bit : 128 ≤ c → Large ≡ number_of_three a b c next
+      pub three_bit : 128 ≤ c → Err Large ≡ number_of_three a b c next
       unfolding number_of_three
       three_bit h = simp (number_of_three, ne_eqb, le-leb)
 
       module _ (h : c < 128) where
-        pub three_large : 65535 < a % 128 + 128 * (b % 128) + 16384 * (c % 128) → Large ≡ number_of_three a b c next
+        pub three_large : 65535 < a % 128 + 128 * (b % 128) + 16384 * (c % 128) → Err Large ≡ number_of_three a b c next
         unfolding number_of_three
         three_large l = simp (number_of_three, ne_eqb, lt-leb, lt-ltb)
 
-        pub three_read : a % 128 + 128 * (b % 128) + 16384 * (c % 128) ≤ 65535 → Read (a % 128 + 128 * (b % 128) + 16384 * (c % 128)) next ≡ number_of_three a b c next
+        pub three_read : a % 128 + 128 * (b % 128) + 16384 * (c % 128) ≤ 65535 → read (a % 128 + 128 * (b % 128) + 16384 * (c % 128)) next ≡ number_of_three a b c next
         unfolding number_of_three
         three_read l = simp (number_of_three, ne_eqb, lt-leb, le-ltb)
 
@@ -86,19 +88,19 @@ pub ruleset values = (two_long, two_read, three_long, three_bit, three_large, th
 -- ---- the number at a place
 
 module _ (s : List ℕ) (at : ℕ) (r : Run) (e : r ≡ run_at s at) where
-  pub at_cut : r ≡ Cut → N.Cut ≡ number_at s at
+  pub at_cut : r ≡ Cut → Err F.Cut ≡ number_at s at
   unfolding number_at
   at_cut h = rw (← e, h)
 
-  pub at_one : (a : ℕ) → r ≡ One a → Read (a % 128) (at + 1) ≡ number_at s at
+  pub at_one : (a : ℕ) → r ≡ One a → read (a % 128) (at + 1) ≡ number_at s at
   unfolding number_at
   at_one a h = rw (← e, h)
 
-  pub at_two : (a b : ℕ) (n : Number) → r ≡ Two a b → n ≡ number_of_two a b (at + 2) → n ≡ number_at s at
+  pub at_two : (a b : ℕ) (n : Result Item Fault) → r ≡ Two a b → n ≡ number_of_two a b (at + 2) → n ≡ number_at s at
   unfolding number_at
   at_two a b n h k = rw (← e, h, k)
 
-  pub at_three : (a b c : ℕ) (n : Number) → r ≡ Three a b c → n ≡ number_of_three a b c (at + 3) → n ≡ number_at s at
+  pub at_three : (a b c : ℕ) (n : Result Item Fault) → r ≡ Three a b c → n ≡ number_of_three a b c (at + 3) → n ≡ number_at s at
   unfolding number_at
   at_three a b c n h k = rw (← e, h, k)
 
@@ -137,11 +139,9 @@ module _ (s : List ℕ) (at : ℕ) {r : Run} (e : r ≡ run_at s at) where
   three_within h = subst (Within s at) h (rw e (within s at))
 
 -- "The largest value is 65,535", and the next place is further on and within the input
-abbrev pub Sound : List ℕ → ℕ → Number → Type 0
-Sound s at (Read v n) = (at < n) × (n ≤ length s) × (v < 65536)
-Sound s at N.Cut = Unit {0}
-Sound s at Long = Unit {0}
-Sound s at Large = Unit {0}
+abbrev pub Sound : List ℕ → ℕ → Result Item Fault → Type 0
+Sound s at (Ok i) = (at < i.next) × (i.next ≤ length s) × (i.value < 65536)
+Sound s at (Err f) = Unit {0}
 
 two_sound : (s : List ℕ) (at a b : ℕ) → at + 2 ≤ length s → Sound s at (number_of_two a b (at + 2))
 unfolding number_of_two
@@ -164,5 +164,5 @@ sound s at = go (run_at s at) (within s at)
     go (Two a b) h = two_sound s at a b h
     go (Three a b c) h = three_sound s at a b c h
 
-pub read_sound : (s : List ℕ) (at : ℕ) {v n : ℕ} → number_at s at ≡ Read v n → (at < n) × (n ≤ length s) × (v < 65536)
+pub read_sound : (s : List ℕ) (at : ℕ) {v n : ℕ} → number_at s at ≡ read v n → (at < n) × (n ≤ length s) × (v < 65536)
 read_sound s at e = subst (Sound s at) e (sound s at)

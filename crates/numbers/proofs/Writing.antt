@@ -11,9 +11,8 @@ use lib.ListN.{length, get_or, set, length-set, length-append}
 use lib.Seq.{sets, length-sets, get_or-set_same, get_or-set_other}
 use lib.Dec.{leb}
 use borrow.Author.Tests.{le-ltb, lt-ltb, le-leb, lt-leb}
-use Rattle.numbers.specs.Number.{number_at}
+use Rattle.numbers.specs.Number.{read, number_at}
 use Rattle.numbers.specs.Writing.{number_bytes, written_at, bytes_of, written}
-use Rattle.numbers.specs.declared.Number.TheVariants.{Read}
 use Rattle.numbers.specs.declared.Run.TheVariants.{One, Two, Three}
 use Rattle.numbers.proofs.Reading.{by_test, one, two, three, two_read, three_read, at_one, at_two, at_three}
 
@@ -111,13 +110,13 @@ groups v h =
 
 -- the number at a place of which the bytes are known
 module _ (s : List ℕ) (at v : ℕ) where
-  reads_1 : at + 1 ≤ length s → v < 128 → get_or s at 0 ≡ v % 128 → Read v (at + 1) ≡ number_at s at
+  reads_1 : at + 1 ≤ length s → v < 128 → get_or s at 0 ≡ v % 128 → read v (at + 1) ≡ number_at s at
   reads_1 h l ea =
       let a : ℕ = v % 128 in
       let e : v % 128 % 128 ≡ v = omega arith in
       rw e at (at_one s at (One a) (one s at a (sym ea) (omega arith) (omega arith)) a refl)
 
-  reads_2 : at + 2 ≤ length s → 128 ≤ v → v < 16384 → get_or s at 0 ≡ 128 + v % 128 → get_or s (at + 1) 0 ≡ v / 128 % 128 → Read v (at + 2) ≡ number_at s at
+  reads_2 : at + 2 ≤ length s → 128 ≤ v → v < 16384 → get_or s at 0 ≡ 128 + v % 128 → get_or s (at + 1) 0 ≡ v / 128 % 128 → read v (at + 2) ≡ number_at s at
   reads_2 h g l ea eb =
       let a : ℕ = 128 + v % 128 in
       let b : ℕ = v / 128 % 128 in
@@ -126,7 +125,7 @@ module _ (s : List ℕ) (at v : ℕ) where
       rw e at (at_two s at (Two a b) (two s at a (sym ea) (omega arith) b (sym eb) (omega arith) (omega arith) (omega arith)) a b _ refl (two_read a b (at + 2) n))
 
   reads_3 : at + 3 ≤ length s → 16384 ≤ v → v ≤ 65535 → get_or s at 0 ≡ 128 + v % 128 → get_or s (at + 1) 0 ≡ 128 + v / 128 % 128 → get_or s (at + 2) 0 ≡ v / 16384 % 128
-      → Read v (at + 3) ≡ number_at s at
+      → read v (at + 3) ≡ number_at s at
   reads_3 h g l ea eb ec =
       let a : ℕ = 128 + v % 128 in
       let b : ℕ = 128 + v / 128 % 128 in
@@ -152,8 +151,8 @@ module _ (room : List ℕ) (at v : ℕ) (small : v ≤ 65535) (fits : at + lengt
     byte_0 : 0 < length bs → get_or s at 0 ≡ get_or bs 0 0
     byte_0 h = let z : at + 0 ≡ at = omega arith in rw z at (byte 0 h)
 
-  read : Read v (at + length (number_bytes v)) ≡ number_at s at
-  read = elim (dec_lt v 128) [
+  read_lem : read v (at + length (number_bytes v)) ≡ number_at s at
+  read_lem = elim (dec_lt v 128) [
     | yes l ↦ let e = bytes_1 v l in rw e (reads_1 s at v (long _ e) l (byte_0 _ e (omega arith)))
     | no g ↦ elim (dec_lt v 16384) [
       | yes l ↦ let e = bytes_2 v (omega arith) l in rw e (reads_2 s at v (long _ e) (omega arith) l (byte_0 _ e (omega arith)) (byte _ e 1 (omega arith)))
@@ -162,9 +161,9 @@ module _ (room : List ℕ) (at v : ℕ) (small : v ≤ 65535) (fits : at + lengt
   ]
 
   -- reading back what was written gives the number and the place after it
-  pub reads_back : number_at (sets room at (number_bytes v)) at ≡ Read v (at + length (number_bytes v))
+  pub reads_back : number_at (sets room at (number_bytes v)) at ≡ read v (at + length (number_bytes v))
   unfolding s
-  reads_back = sym read
+  reads_back = sym read_lem
 
 -- ---- numbers one after another
 
