@@ -1,22 +1,13 @@
 -- Which command a line is: the protocol's table of commands, by the first word of a line and the number of its words.
-use Rattle.std.specs.Prelude.{ℕ, Bool, true, false, List, [], ◌∷◌, if◌then◌else◌}
+use Rattle.std.specs.Prelude.{ℕ, List, [], ◌∷◌, if◌then◌else◌, Option, Some, None}
 use Rattle.commands.specs.Texts.{text, same}
 use Rattle.commands.specs.declared.command.Command.{Command}
-use Rattle.commands.specs.declared.command.Command.TheVariants.{Table, Load, Check, Claim, Open, Offer, Play, Message, Hidden, Model, Record, Help, Unknown}
+use Rattle.commands.specs.declared.command.Command.TheVariants.{Table, Load, Check, Claim, Open, Offer, Play, Message, Hidden, Model, Record, Help}
 
 -- the first of some names that a word is; "anything else" is no command
-unfoldable pub named : List (List ℕ × Command) → List ℕ → Command
-named [] w = Unknown
-named (n ∷ ns) w = if same w n.0 then n.1 else named ns w
-
-abbrev pub other_names : List (List ℕ × Command)
-other_names =
-    (text "play", Play) ∷
-    (text "message", Message) ∷
-    (text "hidden", Hidden) ∷
-    (text "model", Model) ∷
-    (text "record", Record) ∷
-    (text "help", Help) ∷ []
+unfoldable pub named : List (List ℕ × Command) → List ℕ → Option Command
+named [] w = None
+named (n ∷ ns) w = if same w n.0 then Some n.1 else named ns w
 
 abbrev pub names : List (List ℕ × Command)
 names =
@@ -25,12 +16,15 @@ names =
     (text "check", Check) ∷
     (text "claim", Claim) ∷
     (text "open", Open) ∷
-    (text "offer", Offer) ∷ other_names
+    (text "offer", Offer) ∷
+    (text "play", Play) ∷
+    (text "message", Message) ∷
+    (text "hidden", Hidden) ∷
+    (text "model", Model) ∷
+    (text "record", Record) ∷
+    (text "help", Help) ∷ []
 
-abbrev pub other_command_of : List ℕ → Command
-other_command_of w = named other_names w
-
-abbrev pub command_of : List ℕ → Command
+abbrev pub command_of : List ℕ → Option Command
 command_of w = named names w
 
 -- the fewest words behind a command's name
@@ -53,7 +47,6 @@ fewest Model = 2
 -- "record", "record HEX"
 fewest Record = 0
 fewest Help = 0
-fewest Unknown = 0
 
 -- the most
 abbrev pub most : Command → ℕ
@@ -69,20 +62,3 @@ most Hidden = 3
 most Model = 3
 most Record = 1
 most Help = 0
-most Unknown = 0
-
--- "anything else"
-abbrev pub is_unknown : Command → Bool
-is_unknown Table = false
-is_unknown Load = false
-is_unknown Check = false
-is_unknown Claim = false
-is_unknown Open = false
-is_unknown Offer = false
-is_unknown Play = false
-is_unknown Message = false
-is_unknown Hidden = false
-is_unknown Model = false
-is_unknown Record = false
-is_unknown Help = false
-is_unknown Unknown = true

@@ -1,41 +1,24 @@
 -- What is wrong with a line, and the answer that says so: "error WHAT, and nothing changes".
-use Rattle.std.specs.Prelude.{ℕ, Bool, true, false, List, [], ◌∷◌}
+use Rattle.std.specs.Prelude.{ℕ, List, [], ◌∷◌}
+use Rattle.lines.specs.declared.decimal.DecimalFault.{DecimalFault}
+use Rattle.lines.specs.declared.decimal.DecimalFault.TheVariants as D
+use Rattle.lines.specs.declared.hex.HexFault.{HexFault}
+use Rattle.lines.specs.declared.hex.HexFault.TheVariants as H
 use Rattle.commands.specs.Texts.{text}
 use Rattle.commands.specs.declared.fault.Fault.{Fault}
-use Rattle.commands.specs.declared.fault.Fault.TheVariants.{Nothing, Blanks, Command, Words, NotDecimal, TooLarge, NotHex, ModelBytes, RecordBytes, TableBytes, NoFile, LongLine}
+use Rattle.commands.specs.declared.fault.Fault.TheVariants.{Blanks, Command, Words, NotDecimal, TooLarge, NotHex, ModelBytes, RecordBytes, TableBytes, NoFile, LongLine}
 
--- "error WHAT, and nothing changes" where there is one
-abbrev pub is_nothing : Fault → Bool
-is_nothing Nothing = true
-is_nothing Blanks = false
-is_nothing Command = false
-is_nothing Words = false
-is_nothing NotDecimal = false
-is_nothing TooLarge = false
-is_nothing NotHex = false
-is_nothing ModelBytes = false
-is_nothing RecordBytes = false
-is_nothing TableBytes = false
-is_nothing NoFile = false
-is_nothing LongLine = false
+-- what a word is that is no number
+abbrev pub decimal_fault : DecimalFault → Fault
+decimal_fault D.NotDecimal = NotDecimal
+decimal_fault D.TooLarge = TooLarge
 
--- the first of two faults
-abbrev pub first_of : Fault → Fault → Fault
-first_of Nothing b = b
-first_of Blanks b = Blanks
-first_of Command b = Command
-first_of Words b = Words
-first_of NotDecimal b = NotDecimal
-first_of TooLarge b = TooLarge
-first_of NotHex b = NotHex
-first_of ModelBytes b = ModelBytes
-first_of RecordBytes b = RecordBytes
-first_of TableBytes b = TableBytes
-first_of NoFile b = NoFile
-first_of LongLine b = LongLine
+-- what a word is that is no hex, or has too many bytes
+abbrev pub hex_fault : Fault → HexFault → Fault
+hex_fault too_many H.NotHex = NotHex
+hex_fault too_many H.TooMany = too_many
 
 abbrev pub what : Fault → List ℕ
-what Nothing = []
 -- "an empty line, .. or extra .. blank"
 what Blanks = text "empty line or extra blank"
 -- "anything else"

@@ -1,9 +1,8 @@
-// Which command a line is, by its first word and the number of its words.
+// Which command a line is, by its first word, and how many words it takes.
 ghost use Rattle.std.specs.Prelude.{◌≡◌};
-ghost use Rattle.commands.specs.Texts.{same};
-ghost use Rattle.commands.specs.Commands.{other_command_of, command_of, is_unknown, fewest, most};
+ghost use Rattle.commands.specs.Commands.{command_of, fewest, most};
 
-#[derive(Clone, Copy)]
+#[derive(Clone, Copy, PartialEq, Eq, Debug)]
 pub enum Command {
     Table,
     Load,
@@ -17,122 +16,40 @@ pub enum Command {
     Model,
     Record,
     Help,
-    Unknown,
 }
 
-fn is(word: &[u8], name: &[u8]) -> bool
-    ensures { result ≡ same word.now name.now }
-{
-    check::same(word, name)
-}
-
-// The commands behind `offer`.
-fn other_command_of(word: &[u8]) -> Command
-    ensures { result ≡ other_command_of word.now }
-{
-    if is(word, b"play") {
-        return Command::Play;
-    }
-    if is(word, b"message") {
-        return Command::Message;
-    }
-    if is(word, b"hidden") {
-        return Command::Hidden;
-    }
-    if is(word, b"model") {
-        return Command::Model;
-    }
-    if is(word, b"record") {
-        return Command::Record;
-    }
-    if is(word, b"help") {
-        return Command::Help;
-    }
-    Command::Unknown
-}
-
-pub fn command_of(word: &[u8]) -> Command
+// The command of a name, if it is one.
+pub fn command_of(word: &[u8]) -> Option<Command>
     ensures { result ≡ command_of word.now }
 {
-    if is(word, b"table") {
-        return Command::Table;
-    }
-    if is(word, b"load") {
-        return Command::Load;
-    }
-    if is(word, b"check") {
-        return Command::Check;
-    }
-    if is(word, b"claim") {
-        return Command::Claim;
-    }
-    if is(word, b"open") {
-        return Command::Open;
-    }
-    if is(word, b"offer") {
-        return Command::Offer;
-    }
-    other_command_of(word)
-}
-
-pub fn is_unknown(command: Command) -> bool
-    ensures { result ≡ is_unknown command }
-{
-    match command {
-        Command::Table => false,
-        Command::Load => false,
-        Command::Check => false,
-        Command::Claim => false,
-        Command::Open => false,
-        Command::Offer => false,
-        Command::Play => false,
-        Command::Message => false,
-        Command::Hidden => false,
-        Command::Model => false,
-        Command::Record => false,
-        Command::Help => false,
-        Command::Unknown => true,
+    match word {
+        b"table" => Some(Command::Table),
+        b"load" => Some(Command::Load),
+        b"check" => Some(Command::Check),
+        b"claim" => Some(Command::Claim),
+        b"open" => Some(Command::Open),
+        b"offer" => Some(Command::Offer),
+        b"play" => Some(Command::Play),
+        b"message" => Some(Command::Message),
+        b"hidden" => Some(Command::Hidden),
+        b"model" => Some(Command::Model),
+        b"record" => Some(Command::Record),
+        b"help" => Some(Command::Help),
+        _ => None,
     }
 }
 
-// The fewest words that a command has behind its name.
-pub fn fewest(command: Command) -> usize
-    ensures { result ≡ fewest command }
+// The fewest words that a command has behind its name, and the most.
+pub fn words_behind(command: Command) -> (usize, usize)
+    ensures { result ≡ (fewest command, most command) }
 {
     match command {
-        Command::Table => 1,
-        Command::Load => 1,
-        Command::Check => 0,
-        Command::Claim => 0,
-        Command::Open => 0,
-        Command::Offer => 2,
-        Command::Play => 0,
-        Command::Message => 1,
-        Command::Hidden => 3,
-        Command::Model => 2,
-        Command::Record => 0,
-        Command::Help => 0,
-        Command::Unknown => 0,
-    }
-}
-
-// The most.
-pub fn most(command: Command) -> usize
-    ensures { result ≡ most command }
-{
-    match command {
-        Command::Table => 1,
-        Command::Load => 1,
-        Command::Check => 0,
-        Command::Claim => 0,
-        Command::Open => 0,
-        Command::Offer => 2,
-        Command::Play => 0,
-        Command::Message => 2,
-        Command::Hidden => 3,
-        Command::Model => 3,
-        Command::Record => 1,
-        Command::Help => 0,
-        Command::Unknown => 0,
+        Command::Check | Command::Claim | Command::Open | Command::Play | Command::Help => (0, 0),
+        Command::Record => (0, 1),
+        Command::Table | Command::Load => (1, 1),
+        Command::Message => (1, 2),
+        Command::Offer => (2, 2),
+        Command::Model => (2, 3),
+        Command::Hidden => (3, 3),
     }
 }

@@ -1,14 +1,14 @@
 // What is wrong with a line, and the answer that says so.
 ghost use Rattle.std.specs.Prelude.{◌≡◌};
-ghost use Rattle.numbers.specs.Writing.{written_at};
 ghost use Rattle.commands.specs.Texts.{puts};
-ghost use Rattle.commands.specs.Faults.{is_nothing, first_of, what, error_texts};
+ghost use Rattle.commands.specs.Faults.{decimal_fault, hex_fault, what, error_texts};
 
+use lines::decimal::DecimalFault;
+use lines::hex::HexFault;
 use lines::text::put_text;
 
-#[derive(Clone, Copy)]
+#[derive(Clone, Copy, PartialEq, Eq, Debug)]
 pub enum Fault {
-    Nothing,
     Blanks,
     Command,
     Words,
@@ -22,61 +22,42 @@ pub enum Fault {
     LongLine,
 }
 
-pub fn is_nothing(fault: Fault) -> bool
-    ensures { result ≡ is_nothing fault }
-{
-    match fault {
-        Fault::Nothing => true,
-        Fault::Blanks => false,
-        Fault::Command => false,
-        Fault::Words => false,
-        Fault::NotDecimal => false,
-        Fault::TooLarge => false,
-        Fault::NotHex => false,
-        Fault::ModelBytes => false,
-        Fault::RecordBytes => false,
-        Fault::TableBytes => false,
-        Fault::NoFile => false,
-        Fault::LongLine => false,
+impl From<DecimalFault> for Fault {
+    ghost from_gives = { λ d f. f ≡ decimal_fault d };
+
+    fn from(fault: DecimalFault) -> Fault {
+        match fault {
+            DecimalFault::NotDecimal => Fault::NotDecimal,
+            DecimalFault::TooLarge => Fault::TooLarge,
+        }
     }
 }
 
-// The first of two faults.
-pub fn first_of(a: Fault, b: Fault) -> Fault
-    ensures { result ≡ first_of a b }
+// What is wrong with a word of hex, by what is wrong with too many bytes there.
+pub fn hex_fault(fault: HexFault, too_many: Fault) -> Fault
+    ensures { result ≡ hex_fault too_many fault }
 {
-    match a {
-        Fault::Nothing => b,
-        Fault::Blanks => a,
-        Fault::Command => a,
-        Fault::Words => a,
-        Fault::NotDecimal => a,
-        Fault::TooLarge => a,
-        Fault::NotHex => a,
-        Fault::ModelBytes => a,
-        Fault::RecordBytes => a,
-        Fault::TableBytes => a,
-        Fault::NoFile => a,
-        Fault::LongLine => a,
+    match fault {
+        HexFault::NotHex => Fault::NotHex,
+        HexFault::TooMany => too_many,
     }
 }
 
-fn put_what(room: &mut [u8], at: usize, fault: Fault) -> usize
-    ensures { (result, room.new) ≡ written_at (what fault) at room.old }
+fn what(fault: Fault) -> &'static [u8]
+    ensures { result.now ≡ what fault }
 {
     match fault {
-        Fault::Nothing => put_text(room, at, b""),
-        Fault::Blanks => put_text(room, at, b"empty line or extra blank"),
-        Fault::Command => put_text(room, at, b"unknown command"),
-        Fault::Words => put_text(room, at, b"missing or extra word"),
-        Fault::NotDecimal => put_text(room, at, b"not a decimal number"),
-        Fault::TooLarge => put_text(room, at, b"number over 65535"),
-        Fault::NotHex => put_text(room, at, b"odd or wrong hex"),
-        Fault::ModelBytes => put_text(room, at, b"position or choices of another length"),
-        Fault::RecordBytes => put_text(room, at, b"a record has 2580 bytes"),
-        Fault::TableBytes => put_text(room, at, b"table over 70000 bytes"),
-        Fault::NoFile => put_text(room, at, b"no such file"),
-        Fault::LongLine => put_text(room, at, b"line too long"),
+        Fault::Blanks => b"empty line or extra blank",
+        Fault::Command => b"unknown command",
+        Fault::Words => b"missing or extra word",
+        Fault::NotDecimal => b"not a decimal number",
+        Fault::TooLarge => b"number over 65535",
+        Fault::NotHex => b"odd or wrong hex",
+        Fault::ModelBytes => b"position or choices of another length",
+        Fault::RecordBytes => b"a record has 2580 bytes",
+        Fault::TableBytes => b"table over 70000 bytes",
+        Fault::NoFile => b"no such file",
+        Fault::LongLine => b"line too long",
     }
 }
 
@@ -85,5 +66,5 @@ pub fn put_fault(room: &mut [u8], fault: Fault) -> usize
     ensures { (result, room.new) ≡ puts (error_texts fault) (0, room.old) }
 {
     let at = put_text(room, 0, b"error ");
-    put_what(room, at, fault)
+    put_text(room, at, what(fault))
 }

@@ -1,17 +1,18 @@
 // A file read whole.
-ghost use Rattle.std.specs.Prelude.{◌≡◌, ◌≤◌, length};
+ghost use Rattle.std.specs.Prelude.{◌≡◌, ◌≤◌, length, IfOk};
 ghost use Rattle.lines.specs.Every.{every};
 ghost use Rattle.feed.specs.File.{is_ascii, filled, Loads};
 
-use crate::reading::{Got, read_more};
+use crate::reading::read_more;
 use lines::text::put_text;
 use std::fs;
+use std::io;
 use std::io::Read;
 use std::rt::Files;
 
-#[derive(Clone, Copy)]
-pub enum Loaded {
-    Bytes(usize),
+// Why the bytes of a file are not in the room.
+#[derive(Clone, Copy, PartialEq, Eq, Debug)]
+pub enum LoadFault {
     NoFile,
     TooMany,
 }
@@ -20,66 +21,54 @@ pub enum Loaded {
 fn is_ascii(name: &[u8]) -> bool
     ensures { result ≡ every is_ascii name.now }
 {
-    let mut i: usize = 0;
-    while i < name.len() {
-        if 127 < name[i] {
-            return false;
-        }
-        i += 1;
-    }
-    true
+    name.iter().all(|b| b.is_ascii())
 }
 
-// Reads until the room is full, the file ends or a read fails.
-fn read_whole<R: Read>(reader: &mut R, room: &mut [u8]) -> Got
-    ensures { result.have ≤ length room.old }
+// Reads until the room is full or the file ends, and answers how many bytes there are.
+fn read_whole<R: Read>(reader: &mut R, room: &mut [u8]) -> io::Result<usize>
+    ensures { IfOk result (λ have. have ≤ length room.old) }
 {
     let mut have: usize = 0;
     while have < room.len() {
-        let got = read_more(reader, room, have);
-        if got.have == have {
-            return got;
+        let next = read_more(reader, room, have)?;
+        if next == have {
+            return Ok(have);
         }
-        have = got.have;
+        have = next;
     }
-    Got {
-        have,
-        failed: false,
-    }
+    Ok(have)
 }
 
 // Puts bytes at the front of the room, at most 70,000.
-fn fill(bytes: &[u8], room: &mut [u8]) -> Loaded
+fn fill(bytes: &[u8], room: &mut [u8]) -> Result<usize, LoadFault>
     ensures { (result, room.new) ≡ filled bytes.now room.old }
 {
     if 70000 < bytes.len() {
-        return Loaded::TooMany;
+        return Err(LoadFault::TooMany);
     }
     if room.len() < bytes.len() {
-        return Loaded::TooMany;
+        return Err(LoadFault::TooMany);
     }
     put_text(room, 0, bytes);
-    Loaded::Bytes(bytes.len())
+    Ok(bytes.len())
 }
 
 // Puts the bytes of a file, at most 70,000, at the front of the room, which stays as it was if they cannot be had or do not fit.
-pub fn load<F: Files>(files: &F, name: &[u8], room: &mut [u8]) -> Loaded
+pub fn load<F: Files>(files: &F, name: &[u8], room: &mut [u8]) -> Result<usize, LoadFault>
     ensures { Loads room.old (result, room.new) }
 {
     if !is_ascii(name) {
-        return Loaded::NoFile;
+        return Err(LoadFault::NoFile);
     }
     let Ok(path) = str::from_utf8(name) else {
-        return Loaded::NoFile;
+        return Err(LoadFault::NoFile);
     };
     let Ok(mut file) = fs::open(files, path) else {
-        return Loaded::NoFile;
+        return Err(LoadFault::NoFile);
     };
     let mut bytes = [0u8; 70001];
-    let got = read_whole(&mut file, &mut bytes);
-    if got.failed {
-        return Loaded::NoFile;
-    }
-    let have = got.have;
+    let Ok(have) = read_whole(&mut file, &mut bytes) else {
+        return Err(LoadFault::NoFile);
+    };
     fill(&bytes[0..have], room)
 }

@@ -7,12 +7,12 @@ mod reading; // one read from a reader
 ghost use Rattle.std.specs.Prelude.{ℕ, ◌+◌, ◌-◌, ◌≤◌, ◌≡◌, length};
 ghost use Rattle.std.proofs.lemmas.List.Edits.{sets};
 ghost use Rattle.std.proofs.Math.Seq.{slice};
-ghost use Rattle.feed.specs.Feed.{Held, until_end, told, told_last, new_feed, behind};
+ghost use Rattle.feed.specs.Feed.{Held, until_end, told, told_last, seeking, new_feed, behind};
 
 use reading::read_more;
 use std::io::Read;
 
-#[derive(Clone, Copy)]
+#[derive(Clone, Copy, PartialEq, Eq, Debug)]
 pub enum Found {
     Line,
     Long,
@@ -31,17 +31,24 @@ pub struct Feed {
     pub long: bool,
 }
 
+// Nothing was found yet in what stands from a place on.
+fn seeking(place: usize, have: usize) -> Feed
+    ensures { result ≡ seeking place have }
+{
+    Feed {
+        found: Found::More,
+        start: place,
+        end: place,
+        have,
+        long: false,
+    }
+}
+
 pub fn new_feed() -> Feed
     ensures value { result ≡ new_feed }
     ensures held { Held 0 result }
 {
-    Feed {
-        found: Found::More,
-        start: 0,
-        end: 0,
-        have: 0,
-        long: false,
-    }
+    seeking(0, 0)
 }
 
 // The place of the first line end, or `have` where there is none.
@@ -50,14 +57,8 @@ fn line_end(room: &[u8], from: usize, have: usize) -> usize
     ensures value { result ≡ from + until_end (slice from have room.now) }
     ensures lower_bound { (from ≤ result) × (result ≤ have) }
 {
-    let mut i = from;
-    while i < have {
-        if room[i] == b'\n' {
-            return i;
-        }
-        i += 1;
-    }
-    have
+    let end = room[from..have].iter().position(|b| *b == b'\n');
+    end.map_or(have, |n| from + n)
 }
 
 // Moves what stands from `start` up to `have` to the front, and answers how much it is.
@@ -66,35 +67,25 @@ fn to_front(room: &mut [u8], start: usize, have: usize) -> usize
     ensures value { result ≡ have - start }
     ensures room_after { room.new ≡ sets room.old 0 (slice start have room.old) }
 {
-    let mut i: usize = 0;
-    while i < have - start {
-        room[i] = room[start + i];
-        i += 1;
-    }
-    i
+    room.copy_within(start..have, 0);
+    have - start
 }
 
 // What a line is that has ended.
 fn told(long: bool) -> Found
     ensures { result ≡ told long }
 {
-    if long {
-        return Found::Long;
-    }
-    Found::Line
+    if long { Found::Long } else { Found::Line }
 }
 
 // What is left when the input has ended: a line without its end, or nothing.
 fn told_last(left: usize, long: bool) -> Found
     ensures { result ≡ told_last left long }
 {
-    if long {
-        return Found::Long;
-    }
-    if left == 0 {
+    if !long && left == 0 {
         return Found::Nothing;
     }
-    Found::Line
+    told(long)
 }
 
 // Looks for the line's end, and where it is not there yet reads once.
@@ -102,29 +93,25 @@ fn step<R: Read>(reader: &mut R, room: &mut [u8], feed: Feed) -> Feed
     requires { Held (length room.old) feed }
     ensures { Held (length room.old) result }
 {
-    let have = feed.have;
-    let end = line_end(room, feed.end, have);
-    if end < have {
+    let end = line_end(room, feed.end, feed.have);
+    if end < feed.have {
         return Feed {
             found: told(feed.long),
-            start: feed.start,
             end,
-            have,
             long: false,
+            ..feed
         };
     }
-    let left = to_front(room, feed.start, have);
+    let left = to_front(room, feed.start, feed.have);
     if left == room.len() {
         return Feed {
-            found: Found::More,
-            start: 0,
-            end: 0,
-            have: 0,
             long: true,
+            ..seeking(0, 0)
         };
     }
-    let got = read_more(reader, room, left);
-    if got.have == left {
+    // a failed read is the end of the input
+    let have = read_more(reader, room, left).unwrap_or(left);
+    if have == left {
         return Feed {
             found: told_last(left, feed.long),
             start: 0,
@@ -134,11 +121,10 @@ fn step<R: Read>(reader: &mut R, room: &mut [u8], feed: Feed) -> Feed
         };
     }
     Feed {
-        found: Found::More,
         start: 0,
         end: left,
-        have: got.have,
-        long: feed.long,
+        have,
+        ..feed
     }
 }
 
@@ -147,38 +133,25 @@ fn behind(feed: Feed) -> Feed
     ensures value { result ≡ behind feed }
     ensures by_index { (n : ℕ) → Held n feed → Held n result }
 {
-    if feed.end < feed.have {
-        return Feed {
-            found: Found::More,
-            start: feed.end + 1,
-            end: feed.end + 1,
-            have: feed.have,
-            long: false,
-        };
-    }
-    Feed {
-        found: Found::More,
-        start: feed.end,
-        end: feed.end,
-        have: feed.have,
-        long: false,
-    }
+    let place = if feed.end < feed.have {
+        feed.end + 1
+    } else {
+        feed.end
+    };
+    seeking(place, feed.have)
 }
 
-// The next line. Nothing says that a line ends, so the turns are counted down from a number that no run uses up.
+// The next line. Nothing says that a line ends, so the turns are as many as no run uses up.
 pub fn next_line<R: Read>(reader: &mut R, room: &mut [u8], feed: Feed) -> Feed
     requires { Held (length room.old) feed }
     ensures { Held (length room.old) result }
 {
     let mut next = behind(feed);
-    let mut turns = u64::MAX;
-    while turns > 0 {
+    for _ in 0..u64::MAX {
         next = step(reader, room, next);
-        let found = next.found;
-        let Found::More = found else {
+        if next.found != Found::More {
             return next;
-        };
-        turns -= 1;
+        }
     }
     next
 }

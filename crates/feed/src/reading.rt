@@ -1,25 +1,14 @@
 // One read.
-ghost use Rattle.std.specs.Prelude.{◌≤◌, length};
+ghost use Rattle.std.specs.Prelude.{◌≤◌, length, IfOk};
 
+use std::io;
 use std::io::Read;
 
-// How many bytes there are after a read, and whether it failed.
-#[derive(Clone, Copy)]
-pub struct Got {
-    pub have: usize,
-    pub failed: bool,
-}
-
-// Reads once into the free room behind what is there.
-pub fn read_more<R: Read>(reader: &mut R, room: &mut [u8], have: usize) -> Got
+// Reads once into the free room behind what is there, and answers how many bytes there are then.
+pub fn read_more<R: Read>(reader: &mut R, room: &mut [u8], have: usize) -> io::Result<usize>
     requires { have ≤ length room.old }
-    ensures { (have ≤ result.have) × (result.have ≤ length room.old) }
+    ensures { IfOk result (λ n. (have ≤ n) × (n ≤ length room.old)) }
 {
-    match reader.read(&mut room[have..]) {
-        Ok(n) => Got {
-            have: have + n,
-            failed: false,
-        },
-        Err(_) => Got { have, failed: true },
-    }
+    let read = reader.read(&mut room[have..])?;
+    Ok(have + read)
 }

@@ -1,5 +1,5 @@
 -- What the commands that change nothing are answered: check, claim, message, hidden and model.
-use Rattle.std.specs.Prelude.{ℕ, List, [], ◌∷◌, ◌++◌, ltb, take, replicate, if◌then◌else◌}
+use Rattle.std.specs.Prelude.{ℕ, List, [], ◌∷◌, ◌++◌, ltb, take, replicate, if◌then◌else◌, Result, Ok}
 use Rattle.refusals.specs.declared.Refusal.{Refusal}
 use Rattle.gdl.specs.Flags.{blank}
 use Rattle.rules.specs.Verdict.{Verdict}
@@ -9,13 +9,12 @@ use Rattle.calls.specs.declared.Sent.{Sent}
 use Rattle.calls.specs.declared.Looked.{Looked}
 use Rattle.calls.specs.Calls.{message}
 use Rattle.calls.specs.Promises.{CheckPromise, HiddenPromise, ModelPromise}
-use Rattle.lines.specs.declared.decimal.Decimal.{Decimal}
-use Rattle.commands.specs.Faults.{first_of}
-use Rattle.commands.specs.Numbers.{word_at, number_at, room_at, value_of, fault_of}
+use Rattle.commands.specs.Numbers.{word_at, number_at, room_at}
 use Rattle.commands.specs.Placing.{placed}
 use Rattle.commands.specs.Replies.{refusal_texts, more_texts, bytes_texts}
+use Rattle.commands.specs.declared.fault.Fault.{Fault}
 use Rattle.commands.specs.declared.position.Placed.{Placed}
-use Rattle.interpreter.specs.Said.{Texts, or_error, Told, ToldOrError}
+use Rattle.interpreter.specs.Said.{Texts, or_error, ◌>>=◌, Told, ToldOrError}
 
 -- "NUMBER PLACE"
 abbrev pub CheckSaid : List ℕ → Texts → Type 0
@@ -31,10 +30,10 @@ sent_texts a = refusal_texts a.0.refusal ++ more_texts a.0.length ++ bytes_texts
 
 -- "message SEAT or message SEAT ROOM"
 unfoldable pub message_texts : List ℕ → Verdict → Session → Texts
-message_texts line v σ =
-    let seat : Decimal = number_at line 1 in
-    let lent : Decimal = room_at line 2 in
-    or_error (first_of (fault_of seat) (fault_of lent)) (sent_texts (message v σ (value_of seat) (blank (value_of lent))))
+message_texts line v σ = or_error (do
+  seat ← number_at line 1
+  lent ← room_at line 2
+  Ok (sent_texts (message v σ seat (blank lent))))
 
 -- "NUMBER PLACE ANSWER"
 unfoldable pub looked_texts : Looked → Texts
@@ -44,12 +43,15 @@ abbrev pub HiddenTold : Verdict → ℕ → ℕ → ℕ → Texts → Type 0
 HiddenTold v asking moving m = Told Looked (HiddenPromise v asking moving m) looked_texts
 
 -- "hidden SEAT SEAT MOVE"
+unfoldable pub hidden_numbers : List ℕ → Result (ℕ × ℕ × ℕ) Fault
+hidden_numbers line = do
+  asking ← number_at line 1
+  moving ← number_at line 2
+  m ← number_at line 3
+  Ok (asking, moving, m)
+
 abbrev pub HiddenSaid : List ℕ → Verdict → Texts → Type 0
-HiddenSaid line v =
-    let asking : Decimal = number_at line 1 in
-    let moving : Decimal = number_at line 2 in
-    let m : Decimal = number_at line 3 in
-    ToldOrError (first_of (fault_of asking) (first_of (fault_of moving) (fault_of m))) (HiddenTold v (value_of asking) (value_of moving) (value_of m))
+HiddenSaid line v = ToldOrError (ℕ × ℕ × ℕ) (hidden_numbers line) (λ q. HiddenTold v q.0 q.1 q.2)
 
 -- the flags before the first byte that is none
 abbrev pub flags_in : List ℕ → List ℕ
@@ -67,8 +69,11 @@ abbrev pub ModelTold : Verdict → List ℕ → List ℕ → List ℕ → Texts 
 ModelTold v pos ch lent = Told (Refusal × List ℕ) (ModelPromise v pos ch lent) model_texts
 
 -- "model HEX HEX or model HEX HEX ROOM"
+unfoldable pub model_words : List ℕ → Result (Placed × ℕ) Fault
+model_words line = do
+  p ← placed (word_at line 1) (word_at line 2)
+  lent ← room_at line 3
+  Ok (p, lent)
+
 abbrev pub ModelSaid : List ℕ → Verdict → Texts → Type 0
-ModelSaid line v =
-    let p : Placed = placed (word_at line 1) (word_at line 2) in
-    let lent : Decimal = room_at line 3 in
-    ToldOrError (first_of p.fault (fault_of lent)) (ModelTold v p.position p.choices (no_flags (value_of lent)))
+ModelSaid line v = ToldOrError (Placed × ℕ) (model_words line) (λ q. ModelTold v q.0.position q.0.choices (no_flags q.1))

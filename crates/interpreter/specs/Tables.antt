@@ -1,24 +1,19 @@
 -- What the commands that set the table are answered: table and load.
-use Rattle.std.specs.Prelude.{ℕ, ◌≡◌, List}
-use Rattle.lines.specs.declared.hex.Hex.{Hex}
-use Rattle.lines.specs.declared.hex.Hex.TheVariants as H
+use Rattle.std.specs.Prelude.{ℕ, ◌≡◌, List, Result, Ok, Err}
+use Rattle.lines.specs.declared.hex.HexFault.{HexFault}
 use Rattle.feed.specs.File.{Loads}
-use Rattle.feed.specs.declared.file.Loaded.{Loaded}
-use Rattle.feed.specs.declared.file.Loaded.TheVariants as L
-use Rattle.commands.specs.Faults.{error_texts}
+use Rattle.feed.specs.declared.file.LoadFault.{LoadFault}
+use Rattle.feed.specs.declared.file.LoadFault.TheVariants as L
+use Rattle.commands.specs.Faults.{hex_fault, error_texts}
 use Rattle.commands.specs.Replies.{ok_texts}
 use Rattle.commands.specs.declared.fault.Fault.{Fault}
 use Rattle.commands.specs.declared.fault.Fault.TheVariants as F
-use Rattle.interpreter.specs.Said.{Texts, said}
-use Rattle.interpreter.specs.declared.tables.Taken.{Taken}
+use Rattle.interpreter.specs.Said.{Texts}
 
 -- what is said, and how much of the table's room is now the current table
 pub record Take : Type 0 where
   pub texts : Texts
   pub table : ℕ
-
-unfoldable pub taken : Take → List ℕ → Taken × List ℕ
-taken t room = let p : ℕ × List ℕ = said t.texts room in (record { table = t.table; length = p.0 }, p.1)
 
 -- "ok LENGTH"
 abbrev pub accepted : ℕ → Take
@@ -28,20 +23,31 @@ accepted n = record { texts = ok_texts n; table = n }
 abbrev pub refused : ℕ → Fault → Take
 refused before f = record { texts = error_texts f; table = before }
 
+abbrev pub take_of : ℕ → Result ℕ Fault → Take
+take_of before (Ok n) = accepted n
+take_of before (Err f) = refused before f
+
+-- how long a table of hex is
+abbrev pub hex_size : Result ℕ HexFault → Result ℕ Fault
+hex_size (Ok n) = Ok n
+hex_size (Err e) = Err (hex_fault F.TableBytes e)
+
 -- "table HEX"
-abbrev pub hex_take : ℕ → Hex → Take
-hex_take before (H.Bytes n) = accepted n
-hex_take before H.NotHex = refused before F.NotHex
-hex_take before H.TooMany = refused before F.TableBytes
+abbrev pub hex_take : ℕ → Result ℕ HexFault → Take
+hex_take before h = take_of before (hex_size h)
+
+-- how long the table of a file is
+abbrev pub file_size : Result ℕ LoadFault → Result ℕ Fault
+file_size (Ok n) = Ok n
+file_size (Err L.NoFile) = Err F.NoFile
+file_size (Err L.TooMany) = Err F.TableBytes
 
 -- "load FILE"
-abbrev pub file_take : ℕ → Loaded → Take
-file_take before (L.Bytes n) = accepted n
-file_take before L.NoFile = refused before F.NoFile
-file_take before L.TooMany = refused before F.TableBytes
+abbrev pub file_take : ℕ → Result ℕ LoadFault → Take
+file_take before l = take_of before (file_size l)
 
--- the answer to `load` is that of some file
-pub record FileTaken (before : ℕ) (table room after : List ℕ) (x : Taken × List ℕ) : Type 0 where
-  pub given : Loaded
+-- the table is that of some file
+pub record TableLoads (table after : List ℕ) (x : Result ℕ Fault) : Type 0 where
+  pub given : Result ℕ LoadFault
   pub promised : Loads table (given, after)
-  pub tells : x ≡ taken (file_take before given) room
+  pub tells : x ≡ file_size given

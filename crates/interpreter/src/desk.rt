@@ -1,15 +1,17 @@
 // What is current, and the answer to a line.
 ghost use Rattle.std.specs.Prelude.{◌≡◌, ◌-◌, length, take, drop};
 ghost use Rattle.feed.specs.Feed.{Held};
-ghost use Rattle.interpreter.specs.Desk.{new_desk, fault_in, with_length, with_table, with_record, Meant, LineMeant, FoundMeant, Answers};
+ghost use Rattle.interpreter.specs.Tables.{accepted};
+ghost use Rattle.interpreter.specs.Desk.{new_desk, command_in, with_length, with_record, taken, Meant, LineMeant, FoundMeant, Answers, AnswersOr};
 
 use crate::records::Turned;
-use crate::tables::{Taken, load_table, set_table};
+use crate::tables::{load_table, set_table};
 use crate::{looks, records};
-use commands::command::{Command, command_of, fewest, is_unknown, most};
-use commands::fault::{Fault, is_nothing, put_fault};
-use commands::reply::put_help;
+use commands::command::{Command, command_of, words_behind};
+use commands::fault::{Fault, put_fault};
+use commands::reply::{put_help, put_ok};
 use feed::{Feed, Found};
+use lines::text::first_bytes;
 use lines::words::{count_words, well_spaced, word};
 use session::Session;
 use session::bytes::blank_session;
@@ -46,17 +48,17 @@ fn said(desk: Desk, length: usize) -> Answered
     Answered { desk, length }
 }
 
-// An answer with the table that is now current.
-fn taken(desk: Desk, taken: Taken) -> Answered
-    ensures { result ≡ with_table desk taken }
+// "ok LENGTH": the table of that length is now current.
+fn taken(desk: Desk, table: usize, room: &mut [u8]) -> Answered
+    ensures { (result, room.new) ≡ taken desk (accepted table) room.old }
 {
-    let session = desk.session;
+    let length = put_ok(room, table);
     Answered {
         desk: Desk {
-            table: taken.table,
-            session,
+            table,
+            session: desk.session,
         },
-        length: taken.length,
+        length,
     }
 }
 
@@ -64,47 +66,37 @@ fn taken(desk: Desk, taken: Taken) -> Answered
 fn turned(desk: Desk, turned: Turned) -> Answered
     ensures { result ≡ with_record desk turned }
 {
-    let session = turned.session;
     Answered {
         desk: Desk {
             table: desk.table,
-            session,
+            session: turned.session,
         },
         length: turned.length,
     }
 }
 
-// The table within its room.
-fn table_in(room: &[u8], length: usize) -> &[u8]
-    ensures { result.now ≡ take length room.now }
-{
-    if length <= room.len() {
-        return &room[0..length];
-    }
-    room
-}
-
-// What is wrong with a line's blanks, its first word and the number of its words.
-fn fault_in(line: &[u8], command: Command) -> Fault
-    ensures { result ≡ fault_in line.now command }
+// The command of a line, or what is wrong with its blanks, its first word or the number of its words.
+fn command_in(line: &[u8]) -> Result<Command, Fault>
+    ensures { result ≡ command_in line.now }
 {
     if !well_spaced(line) {
-        return Fault::Blanks;
+        return Err(Fault::Blanks);
     }
-    if is_unknown(command) {
-        return Fault::Command;
-    }
+    let Some(command) = command_of(word(line, 0)) else {
+        return Err(Fault::Command);
+    };
+    let (fewest, most) = words_behind(command);
     let words = count_words(line);
-    if words <= fewest(command) {
-        return Fault::Words;
+    if words <= fewest {
+        return Err(Fault::Words);
     }
-    if most(command) < words - 1 {
-        return Fault::Words;
+    if most < words - 1 {
+        return Err(Fault::Words);
     }
-    Fault::Nothing
+    Ok(command)
 }
 
-// The answer to a command whose words are as many as they are to be.
+// The answer to a command whose words are as many as they are to be, or what is wrong with them.
 fn answer_command<F: Files>(
     files: &F,
     line: &[u8],
@@ -112,35 +104,57 @@ fn answer_command<F: Files>(
     table: &mut [u8],
     desk: Desk,
     room: &mut [u8],
-) -> Answered
-    ensures { Answers (Meant line.now command table.old desk) room.old result table.new room.new }
+) -> Result<Answered, Fault>
+    ensures { AnswersOr (Meant line.now command table.old desk) desk room.old result table.new room.new }
 {
     let session = desk.session;
     let size = desk.table;
     match command {
-        Command::Table => taken(desk, set_table(word(line, 1), table, size, room)),
-        Command::Load => taken(desk, load_table(files, word(line, 1), table, size, room)),
-        Command::Check => said(desk, looks::check(table_in(table, size), room)),
-        Command::Claim => said(desk, looks::claim(table_in(table, size), room)),
-        Command::Open => turned(desk, records::open(table_in(table, size), room)),
-        Command::Offer => turned(
+        Command::Table => Ok(taken(desk, set_table(word(line, 1), table)?, room)),
+        Command::Load => Ok(taken(desk, load_table(files, word(line, 1), table)?, room)),
+        Command::Check => Ok(said(desk, looks::check(first_bytes(table, size), room))),
+        Command::Claim => Ok(said(desk, looks::claim(first_bytes(table, size), room))),
+        Command::Open => Ok(turned(desk, records::open(first_bytes(table, size), room))),
+        Command::Offer => Ok(turned(
             desk,
-            records::offer(line, table_in(table, size), session, room),
-        ),
-        Command::Play => turned(desk, records::play(table_in(table, size), session, room)),
-        Command::Message => said(
+            records::offer(line, first_bytes(table, size), session, room)?,
+        )),
+        Command::Play => Ok(turned(
             desk,
-            looks::message(line, table_in(table, size), session, room),
-        ),
-        Command::Hidden => said(desk, looks::hidden(line, table_in(table, size), room)),
-        Command::Model => said(desk, looks::model(line, table_in(table, size), room)),
-        Command::Record => turned(desk, records::record(line, session, room)),
-        Command::Help => said(desk, put_help(room)),
-        Command::Unknown => said(desk, put_fault(room, Fault::Command)),
+            records::play(first_bytes(table, size), session, room),
+        )),
+        Command::Message => Ok(said(
+            desk,
+            looks::message(line, first_bytes(table, size), session, room)?,
+        )),
+        Command::Hidden => Ok(said(
+            desk,
+            looks::hidden(line, first_bytes(table, size), room)?,
+        )),
+        Command::Model => Ok(said(
+            desk,
+            looks::model(line, first_bytes(table, size), room)?,
+        )),
+        Command::Record => Ok(turned(desk, records::record(line, session, room)?)),
+        Command::Help => Ok(said(desk, put_help(room))),
     }
 }
 
-// The answer to a line without its end, written at the front of the room.
+// The answer to a line, or what is wrong with it.
+fn answer_line<F: Files>(
+    files: &F,
+    line: &[u8],
+    table: &mut [u8],
+    desk: Desk,
+    room: &mut [u8],
+) -> Result<Answered, Fault>
+    ensures { AnswersOr (LineMeant line.now table.old desk) desk room.old result table.new room.new }
+{
+    let command = command_in(line)?;
+    answer_command(files, line, command, table, desk, room)
+}
+
+// The answer to a line without its end, written at the front of the room: "error WHAT, and nothing changes" where something is wrong.
 pub fn answer<F: Files>(
     files: &F,
     line: &[u8],
@@ -150,12 +164,10 @@ pub fn answer<F: Files>(
 ) -> Answered
     ensures { Answers (LineMeant line.now table.old desk) room.old result table.new room.new }
 {
-    let command = command_of(word(line, 0));
-    let fault = fault_in(line, command);
-    if !is_nothing(fault) {
-        return said(desk, put_fault(room, fault));
+    match answer_line(files, line, table, desk, room) {
+        Ok(answered) => answered,
+        Err(fault) => said(desk, put_fault(room, fault)),
     }
-    answer_command(files, line, command, table, desk, room)
 }
 
 // The answer to what a feed has found in its room.
@@ -170,13 +182,9 @@ pub fn answer_found<F: Files>(
     requires { Held (length lines.now) feed }
     ensures { Answers (FoundMeant feed.found (take (feed.end - feed.start) (drop feed.start lines.now)) table.old desk) room.old result table.new room.new }
 {
-    let found = feed.found;
-    let start = feed.start;
-    let end = feed.end;
-    match found {
-        Found::Line => answer(files, &lines[start..end], table, desk, room),
+    match feed.found {
+        Found::Line => answer(files, &lines[feed.start..feed.end], table, desk, room),
         Found::Long => said(desk, put_fault(room, Fault::LongLine)),
-        Found::Nothing => said(desk, 0),
-        Found::More => said(desk, 0),
+        Found::Nothing | Found::More => said(desk, 0),
     }
 }

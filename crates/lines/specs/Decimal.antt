@@ -1,8 +1,8 @@
 -- Decimal numbers: "numbers are decimal", and "a number over 65,535" is refused.
-use Rattle.std.specs.Prelude.{ℕ, zero, suc, ◌+◌, ◌*◌, ◌-◌, ◌/◌, ◌%◌, ◌<◌, ◌≡◌, Bool, ◌&&◌, List, [], ◌∷◌, ◌++◌, leb, ltb, drop, length, if◌then◌else◌}
+use Rattle.std.specs.Prelude.{ℕ, zero, suc, ◌+◌, ◌*◌, ◌-◌, ◌/◌, ◌%◌, ◌<◌, ◌≡◌, Bool, ◌&&◌, List, [], ◌∷◌, ◌++◌, leb, ltb, drop, length, if◌then◌else◌, Result, Ok, Err}
 use Rattle.lines.specs.Every.{every}
-use Rattle.lines.specs.declared.decimal.Decimal.{Decimal}
-use Rattle.lines.specs.declared.decimal.Decimal.TheVariants.{Value, NotDecimal, TooLarge}
+use Rattle.lines.specs.declared.decimal.DecimalFault.{DecimalFault}
+use Rattle.lines.specs.declared.decimal.DecimalFault.TheVariants.{NotDecimal, TooLarge}
 
 -- the bytes of the digits 0 to 9
 abbrev pub is_digit : ℕ → Bool
@@ -17,10 +17,10 @@ abbrev pub value_of : List ℕ → ℕ
 value_of w = value_from 0 w
 
 -- what a word says: at least one digit and nothing else, and at most 65,535
-unfoldable pub decimal_of : List ℕ → Decimal
+unfoldable pub decimal_of : List ℕ → Result ℕ DecimalFault
 decimal_of w =
-    if leb (length w) 0 then NotDecimal else
-    if every is_digit w then (if leb (value_of w) 65535 then Value (value_of w) else TooLarge) else NotDecimal
+    if leb (length w) 0 then Err NotDecimal else
+    if every is_digit w then (if leb (value_of w) 65535 then Ok (value_of w) else Err TooLarge) else Err NotDecimal
 
 -- the byte of a number's last digit
 abbrev pub digit_of : ℕ → ℕ

@@ -1,9 +1,9 @@
 -- Bytes in hex: "bytes are hex (`-` for none)".
-use Rattle.std.specs.Prelude.{ℕ, ◌+◌, ◌*◌, ◌-◌, ◌/◌, ◌%◌, Bool, false, ◌&&◌, ◌||◌, List, [], ◌∷◌, leb, ltb, eqb, length, if◌then◌else◌}
+use Rattle.std.specs.Prelude.{ℕ, ◌+◌, ◌*◌, ◌-◌, ◌/◌, ◌%◌, Bool, false, ◌&&◌, ◌||◌, List, [], ◌∷◌, leb, ltb, eqb, length, if◌then◌else◌, Result, Ok, Err}
 use Rattle.std.proofs.lemmas.List.Edits.{sets}
 use Rattle.lines.specs.Every.{every}
-use Rattle.lines.specs.declared.hex.Hex.{Hex}
-use Rattle.lines.specs.declared.hex.Hex.TheVariants.{Bytes, NotHex, TooMany}
+use Rattle.lines.specs.declared.hex.HexFault.{HexFault}
+use Rattle.lines.specs.declared.hex.HexFault.TheVariants.{NotHex, TooMany}
 
 -- what a digit counts, of either case; 16 for a byte that is no digit
 unfoldable pub nibble : ℕ → ℕ
@@ -38,10 +38,10 @@ bytes_of (a ∷ []) = []
 bytes_of (a ∷ b ∷ w) = (16 * nibble a + nibble b) ∷ bytes_of w
 
 -- how many bytes a word says, and the room with the bytes at its front; where there are none or too many the room stays as it was
-unfoldable pub hex_into : List ℕ → List ℕ → Hex × List ℕ
+unfoldable pub hex_into : List ℕ → List ℕ → Result ℕ HexFault × List ℕ
 hex_into w room =
     let many : ℕ = length (bytes_of w) in
-    if is_hex w then (if leb many (length room) then (Bytes many, sets room 0 (bytes_of w)) else (TooMany, room)) else (NotHex, room)
+    if is_hex w then (if leb many (length room) then (Ok many, sets room 0 (bytes_of w)) else (Err TooMany, room)) else (Err NotHex, room)
 
 -- the byte of a digit below 16, in lower case
 unfoldable pub glyph : ℕ → ℕ

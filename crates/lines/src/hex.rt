@@ -3,14 +3,13 @@ ghost use Rattle.std.specs.Prelude.{◌≡◌, true, ◌+◌, ◌*◌, ◌/◌, 
 ghost use Rattle.std.proofs.lemmas.List.Edits.{sets};
 ghost use Rattle.numbers.specs.Writing.{written_at};
 ghost use Rattle.lines.specs.Every.{every};
-ghost use Rattle.lines.specs.Hex.{nibble, is_nibble, is_dash, is_hex, bytes_of, hex_into, glyph, hex_digits, hex_text};
+ghost use Rattle.lines.specs.Hex.{nibble, is_nibble, is_hex, bytes_of, hex_into, glyph, hex_digits, hex_text};
 
 use crate::text::put_text;
 
-// What a word says: so many bytes, or none, or more than the room holds.
-#[derive(Clone, Copy)]
-pub enum Hex {
-    Bytes(usize),
+// Why a word is not hex that the room holds.
+#[derive(Clone, Copy, PartialEq, Eq, Debug)]
+pub enum HexFault {
     NotHex,
     TooMany,
 }
@@ -19,62 +18,24 @@ pub enum Hex {
 fn nibble(b: u8) -> u8
     ensures { result ≡ nibble b }
 {
-    if b < 48 {
-        return 16;
+    match b {
+        b'0'..=b'9' => b - b'0',
+        b'A'..=b'F' => b - b'A' + 10,
+        b'a'..=b'f' => b - b'a' + 10,
+        _ => 16,
     }
-    if b <= 57 {
-        return b - 48;
-    }
-    if b < 65 {
-        return 16;
-    }
-    if b <= 70 {
-        return b - 55;
-    }
-    if b < 97 {
-        return 16;
-    }
-    if b <= 102 {
-        return b - 87;
-    }
-    16
 }
 
 fn every_nibble(word: &[u8]) -> bool
     ensures { result ≡ every is_nibble word.now }
 {
-    let mut i: usize = 0;
-    while i < word.len() {
-        if 16 <= nibble(word[i]) {
-            return false;
-        }
-        i += 1;
-    }
-    true
-}
-
-fn is_dash(word: &[u8]) -> bool
-    ensures { result ≡ is_dash word.now }
-{
-    if word.len() != 1 {
-        return false;
-    }
-    word[0] == b'-'
+    word.iter().all(|b| nibble(*b) < 16)
 }
 
 fn is_hex(word: &[u8]) -> bool
     ensures { result ≡ is_hex word.now }
 {
-    if is_dash(word) {
-        return true;
-    }
-    if word.len() == 0 {
-        return false;
-    }
-    if word.len() % 2 != 0 {
-        return false;
-    }
-    every_nibble(word)
+    matches!(word, [b'-']) || (!word.is_empty() && word.len() % 2 == 0 && every_nibble(word))
 }
 
 // The byte of two digits.
@@ -89,27 +50,25 @@ fn write_bytes(word: &[u8], room: &mut [u8])
     requires { (is_hex word.now ≡ true) × (length word.now / 2 ≤ length room.old) }
     ensures { room.new ≡ sets room.old 0 (bytes_of word.now) }
 {
-    let many = word.len() / 2;
-    let mut k: usize = 0;
-    while k < many {
+    for k in 0..word.len() / 2 {
         room[k] = joined(nibble(word[2 * k]), nibble(word[2 * k + 1]));
-        k += 1;
     }
 }
 
 // Writes the bytes of a word at the front of the room, and answers how many they are; where the word is not hex, or its bytes do not
 // fit, the room stays as it was.
-pub fn read_hex(word: &[u8], room: &mut [u8]) -> Hex
+pub fn read_hex(word: &[u8], room: &mut [u8]) -> Result<usize, HexFault>
     ensures { (result, room.new) ≡ hex_into word.now room.old }
 {
     if !is_hex(word) {
-        return Hex::NotHex;
+        return Err(HexFault::NotHex);
     }
-    if room.len() < word.len() / 2 {
-        return Hex::TooMany;
+    let many = word.len() / 2;
+    if room.len() < many {
+        return Err(HexFault::TooMany);
     }
     write_bytes(word, room);
-    Hex::Bytes(word.len() / 2)
+    Ok(many)
 }
 
 // The byte of a digit below 16, in lower case.
@@ -117,33 +76,16 @@ fn glyph(d: u8) -> u8
     requires { d < 16 }
     ensures { result ≡ glyph d }
 {
-    if d < 10 {
-        return 48 + d;
-    }
-    87 + d
-}
-
-fn high_digit(b: u8) -> u8
-    ensures { result ≡ glyph (b / 16) }
-{
-    glyph(b / 16)
-}
-
-fn low_digit(b: u8) -> u8
-    ensures { result ≡ glyph (b % 16) }
-{
-    glyph(b % 16)
+    if d < 10 { b'0' + d } else { b'a' + (d - 10) }
 }
 
 fn write_digits(bytes: &[u8], room: &mut [u8], at: usize)
     requires { at + 2 * length bytes.now ≤ length room.old }
     ensures { room.new ≡ sets room.old at (hex_digits bytes.now) }
 {
-    let mut k: usize = 0;
-    while k < bytes.len() {
-        room[at + 2 * k] = high_digit(bytes[k]);
-        room[at + 2 * k + 1] = low_digit(bytes[k]);
-        k += 1;
+    for (k, b) in bytes.iter().enumerate() {
+        room[at + 2 * k] = glyph(*b / 16);
+        room[at + 2 * k + 1] = glyph(*b % 16);
     }
 }
 
@@ -151,13 +93,10 @@ fn write_digits(bytes: &[u8], room: &mut [u8], at: usize)
 pub fn put_hex(room: &mut [u8], at: usize, bytes: &[u8]) -> usize
     ensures { (result, room.new) ≡ written_at (hex_text bytes.now) at room.old }
 {
-    if bytes.len() == 0 {
+    if bytes.is_empty() {
         return put_text(room, at, b"-");
     }
-    if room.len() < at {
-        return at;
-    }
-    if (room.len() - at) / 2 < bytes.len() {
+    if room.len() < at || (room.len() - at) / 2 < bytes.len() {
         return at;
     }
     write_digits(bytes, room, at);

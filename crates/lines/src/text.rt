@@ -1,5 +1,5 @@
-// Bytes put into lent room one after another.
-ghost use Rattle.std.specs.Prelude.{◌≡◌};
+// Bytes put into lent room one after another, and the bytes at its front.
+ghost use Rattle.std.specs.Prelude.{◌≡◌, take};
 ghost use Rattle.numbers.specs.Writing.{written_at};
 
 use numbers::copying::copy;
@@ -9,12 +9,17 @@ use numbers::copying::copy;
 pub fn put_text(room: &mut [u8], at: usize, part: &[u8]) -> usize
     ensures { (result, room.new) ≡ written_at part.now at room.old }
 {
-    if room.len() < at {
-        return at;
-    }
-    if room.len() - at < part.len() {
+    if room.len() < at || room.len() - at < part.len() {
         return at;
     }
     copy(part, room, at);
     at + part.len()
+}
+
+// The first bytes of the room, so many or all.
+pub fn first_bytes(room: &[u8], many: usize) -> &[u8]
+    ensures { result.now ≡ take many room.now }
+{
+    let end = many.min(room.len());
+    &room[..end]
 }

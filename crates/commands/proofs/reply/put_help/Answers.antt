@@ -1,7 +1,0 @@
--- One text.
-use borrow.Author.Rules.{rules}
-use Rattle.commands.proofs.Putting.{puttings}
-use Rattle.commands.proofs.reply.put_help.Goals as goal
-
-pub returns : goal.returns
-returns c = search (rules, puttings)
