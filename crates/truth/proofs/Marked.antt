@@ -3,7 +3,6 @@ use mathlib.Core.Path.{◌≡◌, refl, sym, ap, ◌∙◌}
 use mathlib.Core.Bool.{Bool, true, false, ◌&&◌, ◌||◌}
 use mathlib.Core.List.{List, [], ◌∷◌, ◌++◌}
 use Prim.Native.Nat.{ℕ, zero, suc, ◌+◌, ◌*◌, ◌≤◌, ◌<◌}
-use native.Mathlib.Nat.{mul-le-mul_right}
 use native.Mathlib.Omega.{arith}
 use native.Mathlib.Numerals.{add-one}
 use native.Mathlib.Decide.{dec_lt}
@@ -40,14 +39,6 @@ module _ (marks : List ℕ) (kind wanted flag at : ℕ) where
 
       pub in_place : at < 2048 → set marks at 1 ≡ marked_at
       in_place h = rw (eq-eqb kind wanted e, eq-eqb flag 1 f, lt-ltb at 2048 h)
-
-pub ruleset mark_cases = (other_kind_lem, not_in, no_place, in_place)
-
-pub place_fits : (first width : ℕ) → first < 65536 → width ≤ 256 → first * width ≤ 16776960
-place_fits first width h w =
-    let a : first * width ≤ 65535 * width = mul-le-mul_right width (omega arith) in
-    let b : 65535 * width ≤ 16776960 = omega arith in
-    omega arith
 
 -- ---- one atom more
 
@@ -125,4 +116,4 @@ module _ (kinds firsts seconds fl : List ℕ) (kind width : ℕ) where
     unfolding marks_of
     marked_ends le = w.held ∙ rw (take_all i (atoms_of kinds firsts seconds) (omega (arith, size)))
 
-pub ruleset markings = (marked_starts, marked_more, marked_ends)
+pub ruleset markings = (marked_starts)

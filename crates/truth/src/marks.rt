@@ -9,6 +9,7 @@ use gdl::arrays::AtomArrays;
 use gdl::kinds::Kind;
 
 // Marks place first * width + second for each atom of the kind whose flag is 1; a place from 2,048 on is passed over. One visit an atom.
+#[tactic(auto, using(crate::proofs::Marked::markings))]
 pub fn marks_of(atoms: &AtomArrays, flags: &[u8; 1024], kind: Kind, width: usize) -> [u8; 2048]
     requires { Marking atoms.now.kinds.now atoms.now.firsts.now atoms.now.seconds.now width }
     ensures { result ≡ marks_of (kind_number kind) width (atoms_of atoms.now.kinds.now atoms.now.firsts.now atoms.now.seconds.now) (on flags.now) }
