@@ -138,6 +138,8 @@ module _ (s : List ℕ) (at : ℕ) {r : Run} (e : r ≡ run_at s at) where
   pub three_within : {a b c : ℕ} → r ≡ Three a b c → at + 3 ≤ length s
   three_within h = subst (Within s at) h (rw e (within s at))
 
+pub ruleset withins = (one_within, two_within, three_within)
+
 -- "The largest value is 65,535", and the next place is further on and within the input
 abbrev pub Sound : List ℕ → ℕ → Result Item Fault → Type 0
 Sound s at (Ok i) = (at < i.next) × (i.next ≤ length s) × (i.value < 65536)

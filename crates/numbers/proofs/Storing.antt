@@ -11,3 +11,5 @@ pub put_mid-sets : (at k : ℕ) (room part bs : List ℕ) → part ≡ bs → le
 put_mid-sets at k room part bs e l h =
     let fits : at + length bs ≤ length room = rw l h in
     put_mid-paste at k room part bs (length bs) e l refl ∙ paste_all room at bs (length bs) refl ∙ sym (simp append_assoc at (sets-eq bs room at fits))
+
+pub ruleset stores = (put_mid-sets)

@@ -3,6 +3,7 @@ ghost use Rattle.std.specs.Prelude.{◌≡◌, ◌+◌, ◌≤◌, length};
 ghost use Rattle.std.proofs.lemmas.List.Edits.{sets};
 
 // Copies a part into a room, from a place on.
+#[tactic(auto, using(crate::proofs::Storing::stores))]
 pub fn copy(part: &[u8], room: &mut [u8], at: usize)
     requires { at + length part.now ≤ length room.old }
     ensures { room.new ≡ sets room.old at part.now }

@@ -23,7 +23,8 @@ pub enum Fault {
     Large,
 }
 
-// The bytes of a number, by their count. The top bit is set on every byte but the last.
+// The bytes of a number, by their count. The top bit is set on every byte but the last. An enum of its own: the definitions `run_at`
+// and `number_of` speak of its four cases.
 #[derive(Clone, Copy)]
 pub enum Run {
     Cut,
@@ -32,6 +33,7 @@ pub enum Run {
     Three(u16, u16, u16),
 }
 
+#[tactic(auto, using(crate::proofs::Reading::runs))]
 fn run_at(s: &[u8], at: usize) -> Run
     ensures { result ≡ run_at s.now at }
 {
@@ -55,6 +57,7 @@ fn run_at(s: &[u8], at: usize) -> Run
     Run::Three(a, b, u16::from(s[at + 2]))
 }
 
+#[tactic(auto, using(crate::proofs::Reading::values))]
 fn two(a: u16, b: u16, next: usize) -> Result<Item, Fault>
     ensures { result ≡ number_of_two a b next }
 {
@@ -67,6 +70,7 @@ fn two(a: u16, b: u16, next: usize) -> Result<Item, Fault>
     })
 }
 
+#[tactic(auto, using(crate::proofs::Reading::values))]
 fn three(a: u16, b: u16, c: u16, next: usize) -> Result<Item, Fault>
     ensures { result ≡ number_of_three a b c next }
 {
@@ -86,6 +90,7 @@ fn three(a: u16, b: u16, c: u16, next: usize) -> Result<Item, Fault>
     })
 }
 
+#[tactic(auto, using(crate::proofs::Reading::places, crate::proofs::Reading::withins))]
 pub fn read_number(s: &[u8], at: usize) -> Result<Item, Fault>
     ensures { result ≡ number_at s.now at }
 {
@@ -116,6 +121,7 @@ fn last(group: u16) -> u8
 
 // Writes a number at a place of the room, and answers the place after it; where it does not fit the room stays as it was, and the
 // answer is the place itself.
+#[tactic(auto, using(crate::proofs::Writing::writings))]
 pub fn write_number(room: &mut [u8], at: usize, v: u16) -> usize
     ensures { (result, room.new) ≡ written_at (number_bytes v) at room.old }
 {
