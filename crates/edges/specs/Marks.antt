@@ -1,5 +1,5 @@
 -- The worklist of a closure: what its steps ask for, and what each gives.
-use Rattle.std.specs.Prelude.{◌≡◌, ◌⊎◌, List, ℕ, ◌+◌, ◌<◌, ◌≤◌, T, length, get_or, set, take}
+use Rattle.std.specs.Prelude.{◌≡◌, ◌⊎◌, List, ℕ, ◌+◌, ◌<◌, ◌≤◌, T, get_or, set, take}
 use Rattle.gdl.specs.Sets.{Atoms}
 use Rattle.gdl.specs.Flags.{count}
 use Rattle.edges.specs.Closure.{Shut}

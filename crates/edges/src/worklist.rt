@@ -27,6 +27,7 @@ impl Worklist {
     }
 
     // Puts a marked node at the end of the queue.
+    #[tactic(auto, using(crate::proofs::Marking::pushes))]
     fn push(&mut self, p: usize)
         requires { Pushable p self.old }
         ensures { Pushed p self.old self.new }

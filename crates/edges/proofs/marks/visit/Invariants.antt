@@ -5,7 +5,7 @@ use Rattle.edges.proofs.Visiting.{Visiting}
 use Rattle.edges.proofs.marks.visit.Given as goal
 
 abbrev pub invariant-loop-k : goal.invariant-loop-k
-invariant-loop-k l = Visiting l.from l.to l.initial.marks l.initial.queue l.n l.marks l.queue l.p l.out l.k
+invariant-loop-k l = Visiting l.edges l.initial.work l.work l.p l.k
 
 abbrev pub decreases-loop-k : goal.decreases-loop-k
-decreases-loop-k l = length l.to - l.k
+decreases-loop-k l = length l.edges.to.now - l.k

@@ -1,16 +1,13 @@
--- The marked nodes below p are queued, and nothing else.
-use Rattle.edges.proofs.Marking.{gatherings}
-use borrow.Author.Rules.{rules}
-use Rattle.edges.proofs.marks.gather.Goals as goal
+-- A marked node is pushed, another is passed.
+use Rattle.edges.proofs.Marking.{gather_pushable, gather_more, gather_skip}
+use Rattle.edges.proofs.worklist.Worklist.gather.Goals as goal
+use Rattle.edges.proofs.worklist.Worklist.gather.Goals.{then-self-p-eq1, else-self-p-eq1}
 
-pub loop-p-init : goal.loop-p-init
-loop-p-init c = search (rules, gatherings)
-
-pub line_up-n-requires : goal.line_up-n-requires
-line_up-n-requires c = search (rules, gatherings)
+pub push-requires : goal.push-requires
+push-requires c = gather_pushable _ _ c.requires.seeded _ _ c.loop-p.invariant c.loop-p-test.true c.if-self-p-eq1.true
 
 pub loop-p-preserved : goal.loop-p-preserved
-loop-p-preserved c = search (rules, gatherings)
-
-pub returns : goal.returns
-returns c = search (rules, gatherings)
+loop-p-preserved c = elim c.if-self-p-eq1.branch [
+  | then-self-p-eq1 w ↦ rw w.self-is (gather_more _ _ c.requires.seeded _ _ c.loop-p.invariant c.loop-p-test.true w.if-self-p-eq1.true _ w.push.ensures)
+  | else-self-p-eq1 w ↦ rw w.self-is (gather_skip _ _ c.requires.seeded _ _ c.loop-p.invariant c.loop-p-test.true w.if-self-p-eq1.false)
+]

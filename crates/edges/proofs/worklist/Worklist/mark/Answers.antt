@@ -1,20 +1,13 @@
 -- A node that is not marked leaves room in the queue.
-use native.Mathlib.Omega.{arith}
-use borrow.Author.Rules.{rules}
-use Rattle.edges.proofs.Marking.{markings, has_room}
-use Rattle.edges.proofs.marks.mark.Goals as goal
+use Rattle.edges.proofs.Marking.{mark_queue, mark_here, mark_room}
+use Rattle.edges.proofs.worklist.Worklist.mark.Goals as goal
 
-pub returns-then-marks-h-eq1 : goal.returns-then-marks-h-eq1
-returns-then-marks-h-eq1 c = search (rules, markings)
+pub invariant_of-self : goal.invariant_of-self
+invariant_of-self c = record { queued = mark_queue _ _ _ _ c.args.self.now.queued c.requires c.if-self-h-eq1.false }
 
-pub offset_bounds-queue-n : goal.offset_bounds-queue-n
-offset_bounds-queue-n c = search (rules, markings)
-
-pub bounds-queue-n : goal.bounds-queue-n
-bounds-queue-n c = search (rules, markings)
-
-pub overflow_add-result : goal.overflow_add-result
-overflow_add-result c = omega (arith, has_room _ _ _ c.requires c.if-marks-h-eq1.false)
-
-pub returns : goal.returns
-returns c = search (rules, markings)
+pub push-requires : goal.push-requires
+push-requires c = record {
+  node = c.requires;
+  marked = mark_here _ _ _ _ c.args.self.now.queued c.requires;
+  room = mark_room _ _ _ _ c.args.self.now.queued c.requires c.if-self-h-eq1.false;
+}
