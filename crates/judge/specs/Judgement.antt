@@ -1,21 +1,19 @@
 -- The whole check on arrays: the rules in their order, the verdict of an answer, and the levels of an accepted game.
-use Rattle.std.specs.Prelude.{◌≡◌, cond, List, [], ◌∷◌, ℕ, ◌≤◌, eqb, length}
+use Rattle.std.specs.Prelude.{◌≡◌, List, [], ◌∷◌, ℕ, ◌≤◌, length, Result, Ok, Err}
 use Rattle.refusals.specs.declared.Refusal.{Refusal}
 use Rattle.refusals.specs.declared.Refusal.TheVariants.{RoleWithBody, NeverHead, NeverInBody, InitRule, DoesRule, NoLevels, NoRoleFact}
-use Rattle.refusals.specs.Refusal.{number_of}
 use Rattle.gdl.specs.Game.{Game}
+use Rattle.gdl.specs.declared.arrays.AtomArrays.{AtomArrays}
+use Rattle.gdl.specs.declared.arrays.ClauseArrays.{ClauseArrays}
 use Rattle.gdl.specs.Flags.{blank}
 use Rattle.gdl.specs.Layout.{kinds_of, firsts_of, heads_of, starts_from, literals_of, owners_of}
 use Rattle.gdl.specs.Graph.{itself}
 use Rattle.gdl.specs.Computed.{look}
 use Rattle.levels.specs.Numbering.{Top, LeastLevels}
-use Rattle.levels.specs.declared.Numbering.{Numbering}
-use Rattle.levels.specs.declared.Numbering.TheVariants.{Allowed, Refused}
 use Rattle.rules.specs.Verdict.{Verdict, unfit, fit}
 use Rattle.rules.specs.Rules.{RoleBroken, HeadBroken, BodyBroken, InitBroken, DoesBroken, LevelsBroken, RoleMissing, Lowest, rule◌refuses◌else◌}
 use Rattle.rules.specs.Limits.{Limits}
-use Rattle.judge.specs.Arrays.{HeldClauses, HeldEdges, HeldRoles, ClausesUsed, EdgesIndexed, RolesShaped}
-use Rattle.judge.specs.declared.Judgement.{Judgement}
+use Rattle.judge.specs.Arrays.{HeldEdges, HeldRoles, EdgesShaped, RolesShaped}
 
 -- ---- rules in a row
 
@@ -44,30 +42,31 @@ use_rules =
 abbrev pub last_rules : List Rule
 last_rules = record { Broken = LevelsBroken; refusal = NoLevels } ∷ record { Broken = RoleMissing; refusal = NoRoleFact } ∷ []
 
--- what an answer says: 0 is the game's own verdict
-abbrev pub verdict_of : Game → Refusal → Verdict
-verdict_of G r = cond (eqb (number_of r) 0) (fit G) (unfit r)
+-- what an answer says: a refusal, or the game's own verdict
+abbrev pub verdict_of : {A : Type 0} → Game → Result A Refusal → Verdict
+verdict_of G (Ok x) = fit G
+verdict_of G (Err r) = unfit r
 
 -- the answer of these rules, of whatever game is held
-pub record Answers (Held : Game → Type 0) (rules : List Rule) (r : Refusal) : Type 0 where
+pub record Answers (Held : Game → Type 0) (rules : List Rule) (r : Result (Unit {0}) Refusal) : Type 0 where
   pub ruled : (G : Game) → Held G → RuledIn rules G (verdict_of G r)
 
 -- ---- the whole check
 
 -- these are the arrays and the seats of a game that was read
-pub record Held (kinds firsts heads starts literals owners : List ℕ) (seats : ℕ) (G : Game) : Type 0 where
+pub record Held (a : AtomArrays) (c : ClauseArrays) (owners : List ℕ) (seats : ℕ) (G : Game) : Type 0 where
   pub limits : Limits G
-  pub kinds_are : kinds ≡ kinds_of G.atoms
-  pub firsts_are : firsts ≡ firsts_of G.atoms
-  pub heads_are : heads ≡ heads_of G.clauses
-  pub starts_are : starts ≡ starts_from 0 G.clauses
-  pub literals_are : literals ≡ literals_of G.clauses
+  pub kinds_are : a.kinds.now ≡ kinds_of G.atoms
+  pub firsts_are : a.firsts.now ≡ firsts_of G.atoms
+  pub heads_are : c.heads.now ≡ heads_of G.clauses
+  pub starts_are : c.starts.now ≡ starts_from 0 G.clauses
+  pub literals_are : c.literals.now ≡ literals_of G.clauses
   pub owners_are : owners ≡ owners_of G.clauses
   pub seats_are : seats ≡ G.seats
 
-pub record HoldsGame (kinds firsts heads starts literals owners : List ℕ) (seats : ℕ) : Type 0 where
+pub record HoldsGame (a : AtomArrays) (c : ClauseArrays) (owners : List ℕ) (seats : ℕ) : Type 0 where
   pub game : Game
-  pub held : Held kinds firsts heads starts literals owners seats game
+  pub held : Held a c owners seats game
 
 -- the least allowed levels of a game's atoms in 1,024 places, `top` the first number above them, and 0 past the last atom
 pub record Levelled (G : Game) (v : List ℕ) (top : ℕ) : Type 0 where
@@ -77,39 +76,29 @@ pub record Levelled (G : Game) (v : List ℕ) (top : ℕ) : Type 0 where
   pub past : (p : ℕ) → length G.atoms ≤ p → look v p ≡ 0
 
 -- the levels, or the place of 11
-abbrev pub LevelsOr11 : Game → Numbering → List ℕ → Type 0
-LevelsOr11 G (Allowed top) v = Levelled G v top
-LevelsOr11 G (Refused p) v = Lowest (LevelsBroken G) p × (v ≡ blank 1024)
+abbrev pub LevelsOr11 : Game → Result ℕ ℕ → List ℕ → Type 0
+LevelsOr11 G (Ok top) v = Levelled G v top
+LevelsOr11 G (Err p) v = Lowest (LevelsBroken G) p × (v ≡ blank 1024)
 
-pub record LevelsOf (Held : Game → Type 0) (n : Numbering) (v : List ℕ) : Type 0 where
+pub record LevelsOf (Held : Game → Type 0) (n : Result ℕ ℕ) (v : List ℕ) : Type 0 where
   pub says : (G : Game) → Held G → LevelsOr11 G n v
 
--- the verdict, and the levels v where it accepts; else everything is blank
-pub record Judges (Held : Game → Type 0) (Rules : Game → Verdict → Type 0) (j : Judgement) (v : List ℕ) : Type 0 where
-  pub ruled : (G : Game) → Held G → Rules G (verdict_of G j.refusal)
-  pub levels : number_of j.refusal ≡ 0 → (G : Game) → Held G → Levelled G v j.top
-  pub blank_levels : (number_of j.refusal ≡ 0 → ⊥) → (G : Game) → Held G → v ≡ blank 1024
-  pub blank_top : (number_of j.refusal ≡ 0 → ⊥) → j.top ≡ 0
+-- the levels v of a game that is accepted, and the first number above them; else everything is blank
+abbrev pub Leaves : Game → Result ℕ Refusal → List ℕ → Type 0
+Leaves G (Ok top) v = Levelled G v top
+Leaves G (Err r) v = v ≡ blank 1024
 
-abbrev pub refused_by : Refusal → Judgement
-refused_by r = record { refusal = r; top = 0 }
-
--- the arrays of 8, 9 and 10
-pub record HeldUses (kinds heads starts literals owners : List ℕ) (G : Game) : Type 0 where
-  pub clauses : HeldClauses kinds heads starts literals G
-  pub edges : HeldEdges kinds owners literals G
-
--- their shape, with the index of the uses
-pub record UsesAsked (kinds heads starts literals owners first next : List ℕ) : Type 0 where
-  pub clauses : ClausesUsed kinds heads starts literals first
-  pub edges : EdgesIndexed kinds owners literals first next
+-- the verdict, and what is left in the lent room
+pub record Judges (Held : Game → Type 0) (Rules : Game → Verdict → Type 0) (j : Result ℕ Refusal) (v : List ℕ) : Type 0 where
+  pub ruled : (G : Game) → Held G → Rules G (verdict_of G j)
+  pub leaves : (G : Game) → Held G → Leaves G j v
 
 -- the arrays of 11 and 12
-pub record HeldLast (kinds firsts heads owners literals : List ℕ) (seats : ℕ) (G : Game) : Type 0 where
-  pub edges : HeldEdges kinds owners literals G
-  pub roles : HeldRoles kinds firsts heads seats G
+pub record HeldLast (a : AtomArrays) (c : ClauseArrays) (owners literals : List ℕ) (seats : ℕ) (G : Game) : Type 0 where
+  pub edges : HeldEdges a.kinds.now owners literals G
+  pub roles : HeldRoles a c seats G
 
--- their shape, with the same index
-pub record LastAsked (kinds firsts heads owners literals first next : List ℕ) : Type 0 where
-  pub edges : EdgesIndexed kinds owners literals first next
-  pub roles : RolesShaped kinds firsts heads
+-- their shape
+pub record LastAsked (a : AtomArrays) (c : ClauseArrays) (owners literals : List ℕ) : Type 0 where
+  pub edges : EdgesShaped a.kinds.now owners literals
+  pub roles : RolesShaped a c

@@ -4,48 +4,30 @@ ghost use Rattle.rules.specs.Rules.{some, RoleMissing};
 ghost use Rattle.judge.specs.Answers.{Searched};
 ghost use Rattle.judge.specs.Arrays.{role_of, HeldRoles, RolesShaped, RoleAsked};
 
-use super::found::Found;
-use super::kinds::ROLE;
-use super::wide;
+use gdl::arrays::{AtomArrays, ClauseArrays};
+use gdl::kinds::Kind;
 
 // Whether an atom is the role atom of the seat.
-fn role_of(kinds: &[u16], firsts: &[u16], atom: u16, seat: usize) -> bool
-    requires { RoleAsked kinds.now firsts.now atom }
-    ensures { result ≡ role_of kinds.now firsts.now seat atom }
+fn role_of(atoms: &AtomArrays, atom: u16, seat: usize) -> bool
+    requires { RoleAsked atoms.now atom }
+    ensures { result ≡ role_of atoms.now seat atom }
 {
-    let p = wide(atom);
-    if kinds[p] == ROLE {
-        return wide(firsts[p]) == seat;
-    }
-    false
+    let p = usize::from(atom);
+    atoms.kinds[p] == Kind::Role.number() && usize::from(atoms.firsts[p]) == seat
 }
 
 // Whether no clause has the role atom of the seat as its head.
-fn role_missing(kinds: &[u16], firsts: &[u16], heads: &[u16], seat: usize) -> bool
-    requires { RolesShaped kinds.now firsts.now heads.now }
-    ensures { result ≡ not (some (role_of kinds.now firsts.now seat) heads.now) }
+fn role_missing(atoms: &AtomArrays, clauses: &ClauseArrays, seat: usize) -> bool
+    requires { RolesShaped atoms.now clauses.now }
+    ensures { result ≡ not (some (role_of atoms.now seat) clauses.now.heads.now) }
 {
-    let mut i = 0;
-    while i < heads.len() {
-        if role_of(kinds, firsts, heads[i], seat) {
-            return false;
-        }
-        i += 1;
-    }
-    true
+    !clauses.heads.iter().any(|head| role_of(atoms, *head, seat))
 }
 
 // The lowest seat without a role fact: at most eight times through the clauses.
-pub(super) fn lowest_seat(kinds: &[u16], firsts: &[u16], heads: &[u16], seats: usize) -> Found
-    requires { RolesShaped kinds.now firsts.now heads.now }
-    ensures { Searched (HeldRoles kinds.now firsts.now heads.now seats) RoleMissing result }
+pub(super) fn lowest_seat(atoms: &AtomArrays, clauses: &ClauseArrays, seats: usize) -> Option<usize>
+    requires { RolesShaped atoms.now clauses.now }
+    ensures { Searched (HeldRoles atoms.now clauses.now seats) RoleMissing result }
 {
-    let mut s = 0;
-    while s < seats {
-        if role_missing(kinds, firsts, heads, s) {
-            return Found::At(s);
-        }
-        s += 1;
-    }
-    Found::Nowhere
+    (0..seats).find(|s| role_missing(atoms, clauses, *s))
 }
