@@ -7,12 +7,11 @@ use lib.ListN.{length, get_or, set}
 use mir.Syntax.{w64}
 use mir.Val.{Fits}
 use Rattle.edges.specs.Uses.{Ends, Unindexed, EdgesFrom, Indexed, no_uses, no_nexts}
-use Rattle.edges.specs.declared.uses.Uses.{Uses}
 use Rattle.edges.proofs.Chains.{chain_starts, chain_more, chain_done}
 
-pub index_starts : (to : List ℕ) (uses : Uses) → Unindexed to uses → EdgesFrom to uses.first uses.next (length to)
+pub index_starts : (to first next : List ℕ) → Unindexed to first next → EdgesFrom to first next (length to)
 unfolding no_uses no_nexts
-index_starts to uses u = chain_starts 1024 8192 uses.first uses.next u.ends.edges u.no_firsts u.empty_nexts
+index_starts to first next u = chain_starts 1024 8192 first next u.ends.edges u.no_firsts u.empty_nexts
 
 module _ (to first next : List ℕ) (low a : ℕ) (s : Ends to) (i : EdgesFrom to first next low) (pos : 0 < low) (ea : a ≡ get_or to (low - 1) 0 / 2) where
   pub use_node : a < 1024

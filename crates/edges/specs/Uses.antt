@@ -1,8 +1,7 @@
 -- Chains of uses: for each node the places that use it, as a chain of rising numbers; and the index of edges by the node at which they end.
-use Rattle.std.specs.Prelude.{◌≡◌, List, ℕ, suc, ◌<◌, ◌≤◌, length, get_or, replicate}
+use Rattle.std.specs.Prelude.{◌≡◌, List, ℕ, suc, ◌<◌, ◌≤◌, length, get_or, set, replicate}
 use Rattle.edges.specs.Graph.{end_of}
 use Rattle.edges.specs.Closure.{Sized}
-use Rattle.edges.specs.declared.uses.Uses.{Uses}
 
 -- ---- any places that use nodes: so many places, and a number `past` them that says 'no more'
 
@@ -27,6 +26,11 @@ module _ (Use : ℕ → ℕ → Type 0) (many past : ℕ) where
     pub next_long : length next ≡ width
     pub rest : (k : ℕ) → many ≤ k → k < width → get_or next k 0 ≡ past
 
+-- a place was put before those that use the node already
+pub record Put (node place : ℕ) (first next first' next' : List ℕ) : Type 0 where
+  pub firsts : first' ≡ set first node place
+  pub nexts : next' ≡ set next place (get_or first node 0)
+
 -- ---- the ends of edges
 
 abbrev pub EndsAt : List ℕ → ℕ → ℕ → Type 0
@@ -49,10 +53,10 @@ unfoldable pub no_nexts : List ℕ
 no_nexts = replicate 8192 8192
 
 -- edges, and an index that knows no use yet
-pub record Unindexed (to : List ℕ) (uses : Uses) : Type 0 where
+pub record Unindexed (to first next : List ℕ) : Type 0 where
   pub ends : Ends to
-  pub no_firsts : uses.first ≡ no_uses
-  pub empty_nexts : uses.next ≡ no_nexts
+  pub no_firsts : first ≡ no_uses
+  pub empty_nexts : next ≡ no_nexts
 
 -- the index of the edges from `low` on, and of all
 abbrev pub EdgesFrom : List ℕ → List ℕ → List ℕ → ℕ → Type 0

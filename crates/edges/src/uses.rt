@@ -1,23 +1,37 @@
 // The index of uses: where each node is the end of an edge.
-ghost use Rattle.edges.specs.Uses.{Unindexed, Indexed};
+ghost use Rattle.std.specs.Prelude.{◌<◌, ◌^◌};
+ghost use Rattle.edges.specs.Uses.{Unindexed, Indexed, Put};
 
-// Where each node is the end of an edge: `first` of the node, then `next` of each edge, rising, until 8,192.
+// Places by the nodes that they use: `first` of the node, then `next` of each place, rising, until a number past all places.
 #[derive(Drop)]
-pub struct Uses {
-    pub first: [u16; 1024],
-    pub next: [u16; 8192],
+pub struct Chains<const NODES: usize, const PLACES: usize> {
+    pub first: [u16; NODES],
+    pub next: [u16; PLACES],
 }
+
+impl<const NODES: usize, const PLACES: usize> Chains<NODES, PLACES> {
+    // Puts a place before the places that are known to use the node already.
+    pub fn put(&mut self, node: usize, place: usize)
+        requires in_nodes { node < NODES }
+        requires in_places { place < PLACES }
+        requires fits { place < 2 ^ 16 }
+        ensures { Put node place self.old.first self.old.next self.new.first self.new.next }
+    {
+        self.next[place] = self.first[node];
+        self.first[node] = place as u16;
+    }
+}
+
+pub type Uses = Chains<1024, 8192>;
 
 // The edges that end at a node, into a lent index that knows none yet. Each edge is put before the uses of its end that are known already, from the
 // last edge down: one turn for each edge.
 #[tactic(auto, using(crate::proofs::Indexing::indexes))]
 pub fn index_uses(to: &[u16], uses: &mut Uses)
-    requires { Unindexed to.now uses.old }
+    requires { Unindexed to.now uses.old.first uses.old.next }
     ensures { Indexed to.now uses.new.first uses.new.next }
 {
     for k in (0..to.len()).rev() {
-        let a = usize::from(to[k] / 2);
-        uses.next[k] = uses.first[a];
-        uses.first[a] = k as u16;
+        uses.put(usize::from(to[k] / 2), k);
     }
 }
