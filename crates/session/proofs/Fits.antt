@@ -16,6 +16,8 @@ use Rattle.gdl.specs.Flags.{bit}
 use Rattle.gdl.specs.Lists.{every_from, every}
 use Rattle.session.specs.Shape.{below, in_grid, flag_fits, choice_within, position_shaped, choices_shaped, percepts_shaped, shaped, limits_of}
 use Rattle.session.specs.Runs.{Bounds, Run, RunIf, Fitting}
+use Rattle.std.specs.Bool.{MatchBool}
+use Rattle.std.specs.List.{enumerate_from, AllWithin, HoldsAt}
 use Rattle.session.specs.declared.Session.{Session}
 use Rattle.session.specs.declared.shape.Limits.{Limits}
 
@@ -59,6 +61,27 @@ module _ (f : ℕ → ℕ → Bool) (l : List ℕ) where
     testing_stuck h e = testing_stops k i h (f k (get_or l k 0)) refl (ap not (w.stuck e))
 
 pub ruleset testings = (testing_starts, testing_stops, testing_goes, testing_jumps, testing_stuck, testing_ends)
+
+never : (b : Bool) → (b && false) ≡ false
+never true = refl
+never false = refl
+
+-- the same test over the elements with their places: all pass, or one that doesn't
+pub every_cases : (f : ℕ → ℕ → Bool) (l : List ℕ) (r : Bool)
+    → MatchBool r (AllWithin (λ (p : ℕ × ℕ). f p.0 p.1 ≡ true) (enumerate_from 0 l) 0 (length (enumerate_from 0 l)))
+    ((k : ℕ) × (k < length (enumerate_from 0 l)) × HoldsAt (λ (p : ℕ × ℕ). f p.0 p.1 ≡ false) (enumerate_from 0 l) k)
+    → r ≡ every f l
+every_cases f l true all = sym (each 0 l (λ k lt. all k (0, 0) (omega arith) lt))
+  where
+    each : (i : ℕ) (l : List ℕ) → ((k : ℕ) → k < length (enumerate_from i l) → f (get_or (enumerate_from i l) k (0, 0)).0 (get_or (enumerate_from i l) k (0, 0)).1 ≡ true) → every_from f i l ≡ true
+    each i [] h = refl
+    each i (x ∷ l) h = rw (h 0 (omega arith), ← add-one i) (each (i + 1) l (λ k lt. h (suc k) (omega arith)))
+every_cases f l false some = sym (one 0 l some.0 some.1 (some.2 (0, 0)))
+  where
+    one : (i : ℕ) (l : List ℕ) (k : ℕ) → k < length (enumerate_from i l) → f (get_or (enumerate_from i l) k (0, 0)).0 (get_or (enumerate_from i l) k (0, 0)).1 ≡ false → every_from f i l ≡ false
+    one i [] k lt e = absurd (omega arith)
+    one i (x ∷ l) zero lt e = rw e
+    one i (x ∷ l) (suc k) lt e = rw (← add-one i, one (i + 1) l k (omega arith) e) (never (f i x))
 
 -- ---- one element
 
@@ -165,26 +188,28 @@ row_position F l r h e = e ∙ every_same (flag_fits (in_grid 65536 1 F)) (flag_
 
 -- ---- the whole record
 
+-- what comes after `&&` is asked only where what comes before it holds
+pub asked : (v a b : Bool) → a ≡ true → v ≡ b → v ≡ (a && b)
+asked v a b e f = rw e f
+
+pub unasked : (v a b : Bool) → a ≡ false → v ≡ false → v ≡ (a && b)
+unasked v a b e f = rw e f
+
 module _ (σ : Session) (l : Limits) where
-  abbrev parts : Bool
-  parts = leb σ.round 65535 && (every (flag_fits (below l.fluents)) σ.position && (every (choice_within l.seats l.moves) σ.choices && every (flag_fits (in_grid 256 l.seats l.percepts)) σ.percepts))
+  abbrev pub position_part : Bool
+  position_part = every (flag_fits (below l.fluents)) σ.position
 
-  by_parts : (r : Bool) → r ≡ parts → (G : Game) → l ≡ limits_of G → r ≡ shaped G σ
+  abbrev pub choices_part : Bool
+  choices_part = every (choice_within l.seats l.moves) σ.choices
+
+  abbrev pub percepts_part : Bool
+  percepts_part = every (flag_fits (in_grid 256 l.seats l.percepts)) σ.percepts
+
+  pub by_parts : (first second r : Bool) → first ≡ (leb σ.round 65535 && position_part) → second ≡ (first && choices_part) → r ≡ (second && percepts_part) → (G : Game) → l ≡ limits_of G → r ≡ shaped G σ
   unfolding shaped position_shaped choices_shaped percepts_shaped
-  by_parts r h G e = rw e at h
-
-  pub late : 65535 < σ.round → (G : Game) → l ≡ limits_of G → false ≡ shaped G σ
-  late h = by_parts false (rw (lt-leb σ.round 65535 h))
-
-  module _ (h : σ.round ≤ 65535) (p : Bool) (ep : p ≡ every (flag_fits (below l.fluents)) σ.position) where
-    pub no_position : not p ≡ true → (G : Game) → l ≡ limits_of G → false ≡ shaped G σ
-    no_position n = by_parts false (rw (le-leb σ.round 65535 h, ← ep, not-true p n))
-
-    module _ (np : not p ≡ false) (c : Bool) (ec : c ≡ every (choice_within l.seats l.moves) σ.choices) where
-      pub no_choices : not c ≡ true → (G : Game) → l ≡ limits_of G → false ≡ shaped G σ
-      no_choices n = by_parts false (rw (le-leb σ.round 65535 h, ← ep, not-false p np, ← ec, not-true c n))
-
-      pub by_percepts : not c ≡ false → (s : Bool) → s ≡ every (flag_fits (in_grid 256 l.seats l.percepts)) σ.percepts → (G : Game) → l ≡ limits_of G → s ≡ shaped G σ
-      by_percepts n s es = by_parts s (rw (le-leb σ.round 65535 h, ← ep, not-false p np, ← ec, not-false c n) es)
-
-pub ruleset shapes = (late, no_position, no_choices, by_percepts)
+  by_parts first second r ef es er G e = rw e at (rw (es, ef, regroup (leb σ.round 65535) position_part choices_part percepts_part) at er)
+    where
+      regroup : (a b c d : Bool) → (((a && b) && c) && d) ≡ (a && (b && (c && d)))
+      regroup true true c d = refl
+      regroup true false c d = refl
+      regroup false b c d = refl

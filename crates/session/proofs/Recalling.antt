@@ -1,37 +1,35 @@
 -- Laws of the functions that read a record's parts back.
 use mathlib.Core.Path.{◌≡◌, refl, sym, ap, ◌∙◌}
-use mathlib.Core.Bool.{true, false}
 use mathlib.Core.List.{List, [], ◌∷◌, append-nil}
 use Prim.Native.Nat.{ℕ, zero, suc, ◌+◌, ◌-◌, ◌*◌, ◌≤◌, ◌<◌}
 use native.Mathlib.Omega.{arith}
 use native.Mathlib.Numerals.{add-one}
 use lib.ListN.{length, get_or, set, take, drop, length-drop, length-set, length-replicate}
 use lib.Seq.{sets, sets-eq, length-take-le, drop-cons, drop-length, drop-drop}
-use borrow.Author.Tests.{eq-eqb, ne_eqb}
 use Rattle.gdl.specs.Flags.{blank}
 use Rattle.session.specs.declared.Session.{Session}
-use Rattle.session.specs.Bytes.{from_little_endian, from_pairs, session_of, read_of}
-use Rattle.session.specs.Shape.{blank_session}
-use Rattle.session.specs.declared.bytes.Read.{Read}
+use Rattle.session.specs.Bytes.{from_little_endian, from_pairs, session_of}
+use Rattle.std.specs.Int.{from_le_bytes, w16, w32}
 use Rattle.session.proofs.ByteForm.{session_same}
 
--- ---- numbers of two bytes, and of two halves of two bytes
+-- ---- numbers of two bytes and of four
 
-pub pair_read : (l : List ℕ) (at r : ℕ) → at + 2 ≤ length l → r ≡ get_or l at 0 + 256 * get_or l (at + 1) 0 → r ≡ from_little_endian (take 2 (drop at l))
-pair_read l at r h q =
+pub pair_read : (l : List ℕ) (at : ℕ) → at + 2 ≤ length l → from_le_bytes w16 (get_or l at 0 ∷ get_or l (at + 1) 0 ∷ []) ≡ from_little_endian (take 2 (drop at l))
+pair_read l at h =
     let a : at < length l = omega arith in
     let b : suc at < length l = omega arith in
-    rw (drop-cons l at 0 a, drop-cons l (suc at) 0 b) (rw (add-one at) at q ∙ omega arith)
+    rw (drop-cons l at 0 a, drop-cons l (suc at) 0 b, add-one at) (omega arith)
 
-halves : (l : List ℕ) → from_little_endian (take 2 l) + 65536 * from_little_endian (take 2 (drop 2 l)) ≡ from_little_endian (take 4 l)
-halves [] = refl
-halves (a ∷ []) = omega arith
-halves (a ∷ b ∷ []) = omega arith
-halves (a ∷ b ∷ c ∷ []) = omega arith
-halves (a ∷ b ∷ c ∷ d ∷ l) = omega arith
-
-pub halves_read : (l : List ℕ) (at low high : ℕ) → low ≡ from_little_endian (take 2 (drop at l)) → high ≡ from_little_endian (take 2 (drop (at + 2) l)) → low + 65536 * high ≡ from_little_endian (take 4 (drop at l))
-halves_read l at low high e f = rw (e, f, ← drop-drop 2 at l) (halves (drop at l))
+pub four_read : (l : List ℕ) (at : ℕ) → at + 4 ≤ length l
+    → from_le_bytes w32 (get_or l at 0 ∷ get_or l (at + 1) 0 ∷ get_or l (at + 2) 0 ∷ get_or l (at + 3) 0 ∷ []) ≡ from_little_endian (take 4 (drop at l))
+four_read l at h =
+    let a : at < length l = omega arith in
+    let b : suc at < length l = omega arith in
+    let c : suc (suc at) < length l = omega arith in
+    let d : suc (suc (suc at)) < length l = omega arith in
+    let two : at + 2 ≡ suc (suc at) = omega arith in
+    let three : at + 3 ≡ suc (suc (suc at)) = omega arith in
+    rw (drop-cons l at 0 a, drop-cons l (suc at) 0 b, drop-cons l (suc (suc at)) 0 c, drop-cons l (suc (suc (suc at))) 0 d, add-one at, two, three) (omega arith)
 
 -- ---- a room that is filled whole
 
@@ -58,9 +56,12 @@ module _ (bytes : List ℕ) (at : ℕ) (choices : List ℕ) where
       record { within = omega arith; size = size; left = rw p (sym all) }
 
   module _ (k : ℕ) (i : Choosing bytes at choices k) where
-    pub choosing_goes : k < 8 → (x : ℕ) → x ≡ from_little_endian (take 2 (drop (at + 2 * k) bytes)) → Choosing bytes at (set choices k x) (k + 1)
-    choosing_goes h x e = record { within = omega arith; size = simp length-set i.size; left = i.left ∙ next }
+    pub choosing_goes : k < 8 → at + 16 ≤ length bytes → (x : ℕ) → x ≡ from_le_bytes w16 (get_or bytes (at + 2 * k) 0 ∷ get_or bytes (at + 2 * k + 1) 0 ∷ []) → Choosing bytes at (set choices k x) (k + 1)
+    choosing_goes h fits x ex = record { within = omega arith; size = simp length-set i.size; left = i.left ∙ next }
       where
+        e : x ≡ from_little_endian (take 2 (drop (at + 2 * k) bytes))
+        e = ex ∙ pair_read bytes (at + 2 * k) (omega arith)
+
         next : sets choices k (from_pairs (8 - k) (drop (at + 2 * k) bytes)) ≡ sets (set choices k x) (k + 1) (from_pairs (8 - (k + 1)) (drop (at + 2 * (k + 1)) bytes))
         next =
             let n : 8 - k ≡ suc (8 - (k + 1)) = omega arith in
@@ -77,25 +78,11 @@ pub ruleset choosings = (choosing_starts, choosing_goes, choosing_ends)
 refilled : (l vs out : List ℕ) (n : ℕ) → l ≡ blank n → length vs ≡ n → out ≡ sets l 0 vs → out ≡ vs
 refilled l vs out n e size f = f ∙ filled l vs (size ∙ sym (rw e (simp length-replicate)))
 
-pub all_out : (bytes p₀ p c s₀ s : List ℕ) (r : ℕ) → length bytes ≡ 2580 → p₀ ≡ blank 512 → p ≡ sets p₀ 0 (take 512 bytes) → c ≡ from_pairs 8 (drop 512 bytes)
-    → s₀ ≡ blank 2048 → s ≡ sets s₀ 0 (take 2048 (drop 528 bytes)) → r ≡ from_little_endian (take 4 (drop 2576 bytes))
+pub all_out : (bytes p c s : List ℕ) (r : ℕ) → length bytes ≡ 2580 → p ≡ take 512 bytes → c ≡ from_pairs 8 (drop 512 bytes)
+    → s ≡ take 2048 (drop 528 bytes)
+    → r ≡ from_le_bytes w32 (get_or bytes 2576 0 ∷ get_or bytes 2577 0 ∷ get_or bytes 2578 0 ∷ get_or bytes 2579 0 ∷ [])
     → ◌≡◌ {A = Session} (record { position = p; choices = c; percepts = s; round = r }) (session_of bytes)
 unfolding session_of
-all_out bytes p₀ p c s₀ s r size e₀ e₁ ec e₂ e₃ er =
-    let seen : 2048 ≤ length (drop 528 bytes) = rw (length-drop 528 bytes) (omega arith) in
+all_out bytes p c s r size ep ec es er =
     session_same p (take 512 bytes) c (from_pairs 8 (drop 512 bytes)) s (take 2048 (drop 528 bytes)) r (from_little_endian (take 4 (drop 2576 bytes)))
-    (refilled p₀ (take 512 bytes) p 512 e₀ (length-take-le 512 bytes (omega arith)) e₁)
-    ec
-    (refilled s₀ (take 2048 (drop 528 bytes)) s 2048 e₂ (length-take-le 2048 (drop 528 bytes) seen) e₃)
-    er
-
-module _ (bytes : List ℕ) (σ : Session) where
-  pub whole : length bytes ≡ 2580 → σ ≡ session_of bytes → ◌≡◌ {A = Read} (record { whole = true; session = σ }) (read_of bytes)
-  unfolding read_of
-  whole h e = rw (eq-eqb (length bytes) 2580 h, e)
-
-  pub no_whole : (length bytes ≡ 2580 → ⊥) → σ ≡ blank_session → ◌≡◌ {A = Read} (record { whole = false; session = σ }) (read_of bytes)
-  unfolding read_of
-  no_whole h e = rw (ne_eqb (length bytes) 2580 h, e)
-
-pub ruleset recallings = (all_out, session_same, whole, no_whole)
+    ep ec es (er ∙ four_read bytes 2576 (omega arith))

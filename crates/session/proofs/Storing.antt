@@ -1,33 +1,53 @@
 -- Laws of the loops that write a record's parts into a room: what was to be stored is what the room has, with the rest stored further on.
-use mathlib.Core.Path.{◌≡◌, refl, sym, ap, ◌∙◌}
-use mathlib.Core.List.{List, [], ◌++◌}
+use mathlib.Core.Path.{◌≡◌, refl, sym, ap, ap₂, ◌∙◌}
+use mathlib.Core.List.{List, [], ◌∷◌, ◌++◌, append_assoc}
 use Prim.Native.Nat.{ℕ, suc, ◌+◌, ◌*◌, ◌/◌, ◌%◌, ◌≤◌, ◌<◌}
 use native.Mathlib.Omega.{arith}
 use native.Mathlib.Numerals.{add-one, unary_clauses}
-use lib.Arith.{digits_mod}
 use lib.ListN.{length, get_or, set, take, drop, length-append, length-replicate, drop_of_length-le}
-use lib.Seq.{sets, length-sets, sets-eq, length-take-le, take_at, take_all, drop-cons}
+use lib.Seq.{sets, length-sets, sets-eq, length-take-le, take_at, take_all, drop-cons, drop-drop}
+use borrow.Rule.Slice.PartMut.{put_mid}
+use Rattle.std.specs.Int.{to_le_bytes, w16, w32}
 use Rattle.gdl.specs.Flags.{blank}
 use Rattle.session.specs.declared.Session.{Session}
 use Rattle.session.specs.Bytes.{little_endian, pairs_of, session_bytes}
 use Rattle.session.proofs.ByteForm.{pairs_length}
 
--- ---- numbers are written as pairs of bytes
+-- ---- a part of a room that is overwritten
+
+-- bytes copied over as many from a place on are stored there
+pub stored : (room : List ℕ) (at k : ℕ) (bytes : List ℕ) → length bytes ≡ k → at + k ≤ length room → put_mid at k room bytes ≡ sets room at bytes
+stored room at k bytes e le = rw (sets-eq bytes room at (omega arith), drop-drop k at room, ← e) (sym (append_assoc (take at room) bytes (drop (at + length bytes) room)))
+
+-- ---- numbers as bytes
+
+pub two_bytes : (x : ℕ) → to_le_bytes w16 x ≡ little_endian 2 x
+two_bytes x = refl
+
+pub four_bytes : (x : ℕ) → to_le_bytes w32 x ≡ little_endian 4 x
+four_bytes x =
+    let third : x / 65536 % 256 ≡ x / 256 / 256 % 256 = omega arith in
+    let fourth : x / 16777216 % 256 ≡ x / 256 / 256 / 256 % 256 = omega arith in
+    ap₂ (λ (y z : ℕ). x % 256 ∷ x / 256 % 256 ∷ y ∷ z ∷ []) third fourth
 
 pub record Pairing (room₀ : List ℕ) (at : ℕ) (choices room : List ℕ) (k : ℕ) : Type 0 where
   pub within : k ≤ length choices
+  pub long : length room ≡ 2580
   pub left : sets room₀ at (pairs_of choices) ≡ sets room (at + 2 * k) (pairs_of (drop k choices))
 
 module _ (room₀ : List ℕ) (at : ℕ) (choices : List ℕ) where
-  pub pairing_starts : Pairing room₀ at choices room₀ 0
-  pairing_starts = record { within = omega arith; left = simp unary_clauses }
+  pub pairing_starts : length room₀ ≡ 2580 → Pairing room₀ at choices room₀ 0
+  pairing_starts e = record { within = omega arith; long = e; left = simp unary_clauses }
 
   module _ (room : List ℕ) (k : ℕ) (i : Pairing room₀ at choices room k) where
-    pub pairing_goes : k < length choices → (after : List ℕ) → after ≡ sets room (at + 2 * k) (little_endian 2 (get_or choices k 0)) → Pairing room₀ at choices after (k + 1)
-    pairing_goes h after e = record { within = omega arith; left = i.left ∙ next }
+    pub pairing_goes : k < length choices → at + 2 * length choices ≤ 2580 → (m : ℕ) → m ≡ 2 → (pair : List ℕ) → pair ≡ to_le_bytes w16 (get_or choices k 0) → Pairing room₀ at choices (put_mid (at + 2 * k) m room pair) (k + 1)
+    pairing_goes h fits m em pair ep =
+        let two : length pair ≡ m = ap length ep ∙ sym em in
+        let e : put_mid (at + 2 * k) m room pair ≡ sets room (at + 2 * k) (little_endian 2 (get_or choices k 0)) = stored room (at + 2 * k) m pair two (omega (arith, i.long)) ∙ ap (sets room (at + 2 * k)) ep in
+        record { within = omega arith; long = ap length e ∙ (length-sets room (at + 2 * k) (little_endian 2 (get_or choices k 0)) ∙ i.long); left = i.left ∙ next (put_mid (at + 2 * k) m room pair) e }
       where
-        next : sets room (at + 2 * k) (pairs_of (drop k choices)) ≡ sets after (at + 2 * (k + 1)) (pairs_of (drop (k + 1) choices))
-        next =
+        next : (after : List ℕ) → after ≡ sets room (at + 2 * k) (little_endian 2 (get_or choices k 0)) → sets room (at + 2 * k) (pairs_of (drop k choices)) ≡ sets after (at + 2 * (k + 1)) (pairs_of (drop (k + 1) choices))
+        next after e =
             let p : at + 2 * (k + 1) ≡ suc (suc (at + 2 * k)) = omega arith in
             rw (e, p, add-one k, drop-cons choices k 0 h) refl
 
@@ -35,27 +55,6 @@ module _ (room₀ : List ℕ) (at : ℕ) (choices : List ℕ) where
     pairing_ends h = sym (rw (drop_of_length-le choices h) at i.left)
 
 pub ruleset pairings = (pairing_starts, pairing_goes, pairing_ends)
-
--- ---- a number as two bytes, and as two halves of two bytes
-
-halves : (x : ℕ) → little_endian 4 x ≡ little_endian 2 (x % 65536) ++ little_endian 2 (x / 65536)
-halves x =
-    let y : ℕ = x % 65536 / 256 in
-    let small : y < 256 = omega arith in
-    let first : x % 65536 % 256 ≡ x % 256 = omega arith in
-    let up : x / 256 ≡ x / 65536 * 256 + y = omega arith in
-    let second : y % 256 ≡ x / 256 % 256 = rw (up, digits_mod (x / 65536) small) (omega arith) in
-    let upper : x / 65536 ≡ x / 256 / 256 = omega arith in
-    rw (first, second, upper)
-
-module _ (room : List ℕ) (at x : ℕ) where
-  pub pair_written : x < 65536 → set (set room at (x % 256)) (at + 1) (x / 256) ≡ sets room at (little_endian 2 x)
-  pair_written h = let e : x / 256 % 256 ≡ x / 256 = omega arith in rw (e, add-one at)
-
-  pub halves_written : (first second : List ℕ) → first ≡ sets room at (little_endian 2 (x % 65536)) → second ≡ sets first (at + 2) (little_endian 2 (x / 65536)) → second ≡ sets room at (little_endian 4 x)
-  halves_written first second e f = let p : at + 2 ≡ suc (suc at) = omega arith in f ∙ rw (e, p) (ap (sets room at) (sym (halves x)))
-
-pub ruleset pairs = (pair_written, halves_written)
 
 -- ---- the whole record: the first n bytes of the room are written
 
@@ -70,15 +69,21 @@ add room n done h part after m e grown fits =
     let long : length (take n room ++ part) ≡ m = length-append (take n room) part ∙ omega (arith, length-take-le n room (omega arith)) in
     record { size = size; first = rw (e, sets-eq part room n within) (take_at (take n room ++ part) (drop (n + length part) room) m long ∙ rw h.first refl) }
 
-pub all_in : (σ : Session) → length σ.position ≡ 512 → length σ.choices ≡ 8 → length σ.percepts ≡ 2048
-    → (r₀ r₁ r₂ r₃ r₄ : List ℕ) → r₀ ≡ blank 2580 → r₁ ≡ sets r₀ 0 σ.position → r₂ ≡ sets r₁ 512 (pairs_of σ.choices)
-    → r₃ ≡ sets r₂ 528 σ.percepts → r₄ ≡ sets r₃ 2576 (little_endian 4 σ.round) → r₄ ≡ session_bytes σ
+pub all_in : (σ : Session) → length σ.position ≡ 512 → length σ.choices ≡ 8 → length σ.percepts ≡ 2048 → (position room percepts round : List ℕ)
+    → position ≡ σ.position → room ≡ sets (put_mid 0 512 (blank 2580) position) 512 (pairs_of σ.choices) → percepts ≡ σ.percepts → round ≡ to_le_bytes w32 σ.round
+    → put_mid 2576 4 (put_mid 528 2048 room percepts) round ≡ session_bytes σ
 unfolding session_bytes
-all_in σ p q s r₀ r₁ r₂ r₃ r₄ e₀ e₁ e₂ e₃ e₄ =
+all_in σ p q s position r₂ percepts round e₁ e₂ e₃ e₄ =
     let two : List ℕ = σ.position ++ pairs_of σ.choices in
-    let h₀ : Holds r₀ 0 [] = record { size = rw e₀ (simp length-replicate); first = refl } in
-    let h₁ = add r₀ 0 [] h₀ σ.position r₁ 512 e₁ (omega arith) (omega arith) in
+    let r₁ : List ℕ = put_mid 0 512 (blank 2580) position in
+    let r₃ : List ℕ = put_mid 528 2048 r₂ percepts in
+    let blank_long : length (blank 2580) ≡ 2580 = simp length-replicate in
+    let position_long : length position ≡ 512 = ap length e₁ ∙ p in
+    let percepts_long : length percepts ≡ 2048 = ap length e₃ ∙ s in
+    let round_long : length round ≡ 4 = ap length e₄ in
+    let h₀ : Holds (blank 2580) 0 [] = record { size = blank_long; first = refl } in
+    let h₁ = add (blank 2580) 0 [] h₀ σ.position r₁ 512 (stored (blank 2580) 0 512 position position_long (omega arith) ∙ ap (sets (blank 2580) 0) e₁) (omega arith) (omega arith) in
     let h₂ = add r₁ 512 σ.position h₁ (pairs_of σ.choices) r₂ 528 e₂ (omega (arith, pairs_length σ.choices)) (omega arith) in
-    let h₃ = add r₂ 528 two h₂ σ.percepts r₃ 2576 e₃ (omega arith) (omega arith) in
-    let h₄ = add r₃ 2576 (two ++ σ.percepts) h₃ (little_endian 4 σ.round) r₄ 2580 e₄ (omega arith) (omega arith) in
-    sym (take_all 2580 r₄ (omega (arith, h₄.size))) ∙ h₄.first
+    let h₃ = add r₂ 528 two h₂ σ.percepts r₃ 2576 (stored r₂ 528 2048 percepts percepts_long (omega (arith, h₂.size)) ∙ ap (sets r₂ 528) e₃) (omega arith) (omega arith) in
+    let h₄ = add r₃ 2576 (two ++ σ.percepts) h₃ (little_endian 4 σ.round) (put_mid 2576 4 r₃ round) 2580 (stored r₃ 2576 4 round round_long (omega (arith, h₃.size)) ∙ ap (sets r₃ 2576) (e₄ ∙ four_bytes σ.round)) (omega arith) (omega arith) in
+    sym (take_all 2580 (put_mid 2576 4 r₃ round) (omega (arith, h₄.size))) ∙ h₄.first

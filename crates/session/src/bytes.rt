@@ -19,6 +19,7 @@ pub fn blank_session() -> Session
 }
 
 // Writes numbers as two bytes each, the lower first.
+#[tactic(auto, using(crate::proofs::Storing::pairings))]
 fn write_choices(room: &mut [u8; 2580], at: usize, choices: &[u16])
     requires { at + 2 * length choices.now ≤ 2580 }
     ensures { room.new ≡ sets room.old at (pairs_of choices.now) }
@@ -41,6 +42,7 @@ pub fn to_bytes(s: Session) -> [u8; 2580]
 }
 
 // Reads eight numbers of two bytes each, the lower first.
+#[tactic(auto, using(crate::proofs::Recalling::choosings))]
 pub fn read_choices(bytes: &[u8], at: usize) -> [u16; 8]
     requires { at + 16 ≤ length bytes.now }
     ensures { result ≡ from_pairs 8 (drop at bytes.now) }

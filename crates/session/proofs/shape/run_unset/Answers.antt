@@ -1,0 +1,7 @@
+-- Flags that are not above 0 are 0.
+use borrow.Author.Rules.{rules}
+use Rattle.session.proofs.Fits.{runs}
+use Rattle.session.proofs.shape.run_unset.Goals as goal
+
+pub returns : goal.returns
+returns c = search (rules, runs)
