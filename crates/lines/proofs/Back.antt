@@ -12,9 +12,8 @@ use lib.Seq.{sets}
 use borrow.Author.Tests.{le-leb, lt-leb, lt-ltb, ltb-true}
 use Rattle.lines.specs.Every.{every}
 use Rattle.lines.specs.Decimal.{is_digit, value_from, value_of, decimal_of, digit_of, digits, decimal_text}
-use Rattle.lines.specs.declared.decimal.Decimal.TheVariants.{Value}
+use Rattle.std.specs.Prelude.{Ok}
 use Rattle.lines.specs.Hex.{nibble, is_nibble, is_hex, bytes_of, hex_into, glyph, hex_digits, hex_text}
-use Rattle.lines.specs.declared.hex.Hex.TheVariants.{Bytes}
 use Rattle.lines.proofs.Testing.{both_left, both_right, every_append}
 use Rattle.lines.proofs.Spelling.{one_digit, more_digits}
 use Rattle.lines.proofs.Pairing.{digit_09, digit_af, glyph_09, glyph_af, digits_many, pairs_of_even}
@@ -51,7 +50,7 @@ spelt (suc n) x h = elim (dec_lt x 10) [
           value = value_append w 0 (digit_of x ∷ []) ∙ omega (arith, s.value);
         })
 
-pub number_back : (x : ℕ) → x ≤ 65535 → decimal_of (decimal_text x) ≡ Value x
+pub number_back : (x : ℕ) → x ≤ 65535 → decimal_of (decimal_text x) ≡ Ok x
 unfolding decimal_of decimal_text
 number_back x h =
     let s = spelt 19 x (omega arith) in
@@ -62,7 +61,7 @@ number_back x h =
 nibble_glyph : (d : ℕ) → d < 16 → nibble (glyph d) ≡ d
 nibble_glyph d h = elim (dec_lt d 10) [
   | yes l ↦ rw (← glyph_09 d l) (sym (digit_09 (48 + d) (omega arith) (omega arith)) ∙ omega arith)
-  | no g ↦ rw (← glyph_af d (omega arith)) (sym (digit_af (87 + d) (omega arith) (omega arith) (omega arith) (omega arith) (omega arith) (omega arith)) ∙ omega arith)
+  | no g ↦ rw (← glyph_af d (omega arith)) (sym (digit_af (87 + d) (omega arith) (omega arith)) ∙ omega arith)
 ]
 
 record Digited (bs w : List ℕ) : Type 0 where
@@ -85,11 +84,11 @@ digited (b ∷ bs) e =
       bytes = rw (high, low, sum, rest.bytes);
     }
 
-reads : (w bs room : List ℕ) → is_hex w ≡ true → bytes_of w ≡ bs → length bs ≤ length room → hex_into w room ≡ (Bytes (length bs), sets room 0 bs)
+reads : (w bs room : List ℕ) → is_hex w ≡ true → bytes_of w ≡ bs → length bs ≤ length room → hex_into w room ≡ (Ok (length bs), sets room 0 bs)
 unfolding hex_into
 reads w bs room e f h = rw (hex_into, e, f, le-leb (length bs) (length room) h)
 
-pub bytes_back : (bs room : List ℕ) → every is_byte bs ≡ true → length bs ≤ length room → hex_into (hex_text bs) room ≡ (Bytes (length bs), sets room 0 bs)
+pub bytes_back : (bs room : List ℕ) → every is_byte bs ≡ true → length bs ≤ length room → hex_into (hex_text bs) room ≡ (Ok (length bs), sets room 0 bs)
 unfolding hex_text is_hex
 bytes_back [] room e h = reads (hex_text []) [] room refl refl h
 bytes_back (b ∷ bs) room e h =

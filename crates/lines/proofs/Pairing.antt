@@ -13,8 +13,9 @@ use Rattle.numbers.specs.Writing.{written_at}
 use Rattle.numbers.proofs.Writing.{fit, too_many}
 use Rattle.lines.specs.Every.{every}
 use Rattle.lines.specs.Hex.{nibble, is_nibble, is_dash, is_pairs, is_hex, bytes_of, hex_into, glyph, hex_digits, hex_text}
-use Rattle.lines.specs.declared.hex.Hex.TheVariants.{Bytes, NotHex, TooMany}
-use Rattle.lines.proofs.Testing.{Testing, each, testing_starts, testing_ends, testing_fails, testing_goes}
+use Rattle.std.specs.Prelude.{Ok, Err}
+use Rattle.lines.specs.declared.hex.HexFault.TheVariants.{NotHex, TooMany}
+use Rattle.lines.proofs.Testing.{each}
 
 -- ---- a digit
 
@@ -23,34 +24,47 @@ module _ (b : ℕ) where
   unfolding nibble
   below_0 h = simp (nibble, lt-ltb)
 
-  module _ (a : 48 ≤ b) where
-    pub digit_09 : b ≤ 57 → b - 48 ≡ nibble b
-    unfolding nibble
-    digit_09 h = simp (nibble, le-ltb, le-leb)
+  pub digit_09 : 48 ≤ b → b ≤ 57 → b - 48 ≡ nibble b
+  unfolding nibble
+  digit_09 a h = simp (nibble, le-ltb, le-leb)
 
-    module _ (c : 57 < b) where
-      pub below_A : b < 65 → 16 ≡ nibble b
-      unfolding nibble
-      below_A h = simp (nibble, le-ltb, lt-ltb, lt-leb)
+  pub below_A : 57 < b → b < 65 → 16 ≡ nibble b
+  unfolding nibble
+  below_A a h = let c : 48 ≤ b = omega arith in simp (nibble, le-ltb, lt-ltb, lt-leb)
 
-      module _ (d : 65 ≤ b) where
-        pub digit_AF : b ≤ 70 → b - 55 ≡ nibble b
-        unfolding nibble
-        digit_AF h = simp (nibble, le-ltb, lt-leb, le-leb)
+  pub digit_AF : 65 ≤ b → b ≤ 70 → b - 65 + 10 ≡ nibble b
+  unfolding nibble
+  digit_AF a h =
+      let c : 48 ≤ b = omega arith in
+      let d : 57 < b = omega arith in
+      simp (nibble, le-ltb, lt-leb, le-leb) (omega arith)
 
-        module _ (e : 70 < b) where
-          pub below_a : b < 97 → 16 ≡ nibble b
-          unfolding nibble
-          below_a h = simp (nibble, le-ltb, lt-ltb, lt-leb)
+  pub below_a : 70 < b → b < 97 → 16 ≡ nibble b
+  unfolding nibble
+  below_a a h =
+      let c : 48 ≤ b = omega arith in
+      let d : 57 < b = omega arith in
+      let e : 65 ≤ b = omega arith in
+      simp (nibble, le-ltb, lt-ltb, lt-leb)
 
-          module _ (f : 97 ≤ b) where
-            pub digit_af : b ≤ 102 → b - 87 ≡ nibble b
-            unfolding nibble
-            digit_af h = simp (nibble, le-ltb, lt-leb, le-leb)
+  pub digit_af : 97 ≤ b → b ≤ 102 → b - 97 + 10 ≡ nibble b
+  unfolding nibble
+  digit_af a h =
+      let c : 48 ≤ b = omega arith in
+      let d : 57 < b = omega arith in
+      let e : 65 ≤ b = omega arith in
+      let f : 70 < b = omega arith in
+      simp (nibble, le-ltb, lt-leb, le-leb) (omega arith)
 
-            pub above_f : 102 < b → 16 ≡ nibble b
-            unfolding nibble
-            above_f h = simp (nibble, le-ltb, lt-leb)
+  pub above_f : 102 < b → 16 ≡ nibble b
+  unfolding nibble
+  above_f h =
+      let c : 48 ≤ b = omega arith in
+      let d : 57 < b = omega arith in
+      let e : 65 ≤ b = omega arith in
+      let f : 70 < b = omega arith in
+      let g : 97 ≤ b = omega arith in
+      simp (nibble, le-ltb, lt-leb)
 
 pub ruleset nibbles = (below_0, digit_09, below_A, digit_AF, below_a, digit_af, above_f)
 
@@ -64,25 +78,6 @@ module _ (d : ℕ) where
   glyph_af h = simp (glyph, le-ltb)
 
 pub ruleset glyphs = (glyph_09, glyph_af)
-
--- ---- a word of digits
-
-module _ (w : List ℕ) where
-  pub nibbles_start : Testing is_nibble w 0
-  nibbles_start = testing_starts is_nibble w
-
-  module _ (i : ℕ) (s : Testing is_nibble w i) where
-    pub nibbles_end : length w ≤ i → true ≡ every is_nibble w
-    nibbles_end h = testing_ends is_nibble w i s h
-
-    module _ (h : i < length w) (n : ℕ) (e : n ≡ nibble (get_or w i 0)) where
-      pub no_nibble : 16 ≤ n → false ≡ every is_nibble w
-      no_nibble k = testing_fails is_nibble w i s h (le-ltb (nibble (get_or w i 0)) 16 (omega arith))
-
-      pub a_nibble : n < 16 → Testing is_nibble w (i + 1)
-      a_nibble k = testing_goes is_nibble w i s h (lt-ltb (nibble (get_or w i 0)) 16 (omega arith))
-
-pub ruleset nibble_loops = (nibbles_start, nibbles_end, no_nibble, a_nibble)
 
 -- ---- which words are hex
 
@@ -191,7 +186,7 @@ module _ (w room₀ : List ℕ) where
 pub ruleset decodings = (decoding_starts, decoding_goes, decoded)
 
 module _ (w room : List ℕ) (t : Bool) (e : t ≡ is_hex w) where
-  pub not_hex : not t ≡ true → (NotHex, room) ≡ hex_into w room
+  pub not_hex : not t ≡ true → (Err NotHex, room) ≡ hex_into w room
   unfolding hex_into
   not_hex n = rw (hex_into, ← e, not-true t n)
 
@@ -199,11 +194,11 @@ module _ (w room : List ℕ) (t : Bool) (e : t ≡ is_hex w) where
     pub is_hex_lem : is_hex w ≡ true
     is_hex_lem = sym e ∙ not-false t n
 
-    pub too_many_bytes : length room < length w / 2 → (TooMany, room) ≡ hex_into w room
+    pub too_many_bytes : length room < length w / 2 → (Err TooMany, room) ≡ hex_into w room
     unfolding hex_into
     too_many_bytes h = rw (hex_into, ← e, not-false t n, bytes_many w, lt-leb (length w / 2) (length room) h)
 
-    pub took : (after : List ℕ) → length w / 2 ≤ length room → after ≡ sets room 0 (bytes_of w) → (Bytes (length w / 2), after) ≡ hex_into w room
+    pub took : (after : List ℕ) → length w / 2 ≤ length room → after ≡ sets room 0 (bytes_of w) → (Ok (length w / 2), after) ≡ hex_into w room
     unfolding hex_into
     took after h f = rw (hex_into, ← e, not-false t n, bytes_many w, le-leb (length w / 2) (length room) h, f)
 
@@ -252,11 +247,11 @@ module _ (bs room : List ℕ) (at : ℕ) where
   pub dash_put : (p : ℕ × List ℕ) → length bs ≡ 0 → p ≡ written_at (45 ∷ []) at room → p ≡ written_at (hex_text bs) at room
   dash_put p h e = rw (text_of_none bs h) e
 
-  module _ (n : length bs ≡ 0 → ⊥) where
+  module _ (n : 0 < length bs) where
     pub no_room_for_hex : (length room - at) / 2 < length bs → (at, room) ≡ written_at (hex_text bs) at room
-    no_room_for_hex h = rw (text_of_some bs n) (too_many (hex_digits bs) at room (omega (arith, digits_many bs)))
+    no_room_for_hex h = rw (text_of_some bs (λ e. omega arith)) (too_many (hex_digits bs) at room (omega (arith, digits_many bs)))
 
     pub hex_put : (after : List ℕ) → at ≤ length room → length bs ≤ (length room - at) / 2 → after ≡ sets room at (hex_digits bs) → (at + 2 * length bs, after) ≡ written_at (hex_text bs) at room
-    hex_put after h k e = rw (text_of_some bs n, e, ← digits_many bs) (fit (hex_digits bs) at room (omega (arith, digits_many bs)))
+    hex_put after h k e = rw (text_of_some bs (λ e. omega arith), e, ← digits_many bs) (fit (hex_digits bs) at room (omega (arith, digits_many bs)))
 
 pub ruleset hex_puts = (dash_put, no_room_for_hex, hex_put)

@@ -12,35 +12,8 @@ use lib.Seq.{drop-cons}
 use borrow.Author.Tests.{le-leb, lt-leb, not-true, not-false}
 use Rattle.lines.specs.Every.{every}
 use Rattle.lines.specs.Decimal.{is_digit, value_from, value_of, decimal_of}
-use Rattle.lines.specs.declared.decimal.Decimal.TheVariants.{Value, NotDecimal, TooLarge}
-use Rattle.lines.proofs.Testing.{Testing, testing_starts, testing_ends, testing_fails, testing_goes}
-
--- ---- digits
-
-module _ (b : ℕ) where
-  pub below_digits : b < 48 → false ≡ is_digit b
-  below_digits h = rw (lt-leb 48 b h)
-
-  pub digit_or_above : (t : Bool) → 48 ≤ b → t ≡ leb b 57 → t ≡ is_digit b
-  digit_or_above t h e = rw (le-leb 48 b h) e
-
-pub ruleset digit_tests = (below_digits, digit_or_above)
-
-module _ (w : List ℕ) where
-  pub digits_start : Testing is_digit w 0
-  digits_start = testing_starts is_digit w
-
-  module _ (i : ℕ) (s : Testing is_digit w i) where
-    pub digits_end : length w ≤ i → true ≡ every is_digit w
-    digits_end h = testing_ends is_digit w i s h
-
-    pub no_digit : i < length w → (t : Bool) → t ≡ is_digit (get_or w i 0) → not t ≡ true → false ≡ every is_digit w
-    no_digit h t e n = testing_fails is_digit w i s h (sym e ∙ not-true t n)
-
-    pub a_digit : i < length w → (t : Bool) → t ≡ is_digit (get_or w i 0) → not t ≡ false → Testing is_digit w (i + 1)
-    a_digit h t e n = testing_goes is_digit w i s h (sym e ∙ not-false t n)
-
-pub ruleset digit_loops = (digits_start, digits_end, no_digit, a_digit)
+use Rattle.std.specs.Prelude.{Ok, Err}
+use Rattle.lines.specs.declared.decimal.DecimalFault.TheVariants.{NotDecimal, TooLarge}
 
 -- ---- the value, cut off
 
@@ -79,7 +52,7 @@ pub ruleset values = (valuing_starts, valuing_goes, valued)
 -- ---- what a word says
 
 module _ (w : List ℕ) where
-  pub says_nothing : length w ≡ 0 → NotDecimal ≡ decimal_of w
+  pub says_nothing : length w ≡ 0 → Err NotDecimal ≡ decimal_of w
   unfolding decimal_of
   says_nothing h = simp (decimal_of, le-leb (length w) 0 (omega arith))
 
@@ -87,16 +60,16 @@ module _ (w : List ℕ) where
     nonempty : leb (length w) 0 ≡ false
     nonempty = lt-leb (length w) 0 (omega arith)
 
-    pub says_other : not t ≡ true → NotDecimal ≡ decimal_of w
+    pub says_other : not t ≡ true → Err NotDecimal ≡ decimal_of w
     unfolding decimal_of
     says_other n = rw (decimal_of, nonempty, sym e ∙ not-true t n)
 
     module _ (d : not t ≡ false) (n : ℕ) (v : n ≡ min (value_of w) 65536) where
-      pub says_value : n ≤ 65535 → Value n ≡ decimal_of w
+      pub says_value : n ≤ 65535 → Ok n ≡ decimal_of w
       unfolding decimal_of
       says_value h = let k : n ≡ value_of w = omega arith in rw (decimal_of, nonempty, sym e ∙ not-false t d, le-leb (value_of w) 65535 (omega arith), k) refl
 
-      pub says_large : 65535 < n → TooLarge ≡ decimal_of w
+      pub says_large : 65535 < n → Err TooLarge ≡ decimal_of w
       unfolding decimal_of
       says_large h = rw (decimal_of, nonempty, sym e ∙ not-false t d, lt-leb (value_of w) 65535 (omega arith)) refl
 

@@ -28,6 +28,7 @@ fn with_digit(n: u32, b: u8) -> u32
 }
 
 // The number that the digits make, or 65,536 where it is larger.
+#[tactic(auto, using(crate::proofs::Valuing::values))]
 fn value_up_to(word: &[u8]) -> u32
     ensures { result ≡ min (value_of word.now) 65536 }
 {
@@ -38,6 +39,7 @@ fn value_up_to(word: &[u8]) -> u32
     n
 }
 
+#[tactic(auto, using(crate::proofs::Valuing::sayings))]
 pub fn read_decimal(word: &[u8]) -> Result<u16, DecimalFault>
     ensures { result ≡ decimal_of word.now }
 {

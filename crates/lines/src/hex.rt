@@ -15,6 +15,7 @@ pub enum HexFault {
 }
 
 // What a digit counts, of either case; 16 for a byte that is no digit.
+#[tactic(auto, using(crate::proofs::Pairing::nibbles))]
 fn nibble(b: u8) -> u8
     ensures { result ≡ nibble b }
 {
@@ -32,6 +33,7 @@ fn every_nibble(word: &[u8]) -> bool
     word.iter().all(|b| nibble(*b) < 16)
 }
 
+#[tactic(auto, using(crate::proofs::Pairing::hexes))]
 fn is_hex(word: &[u8]) -> bool
     ensures { result ≡ is_hex word.now }
 {
@@ -46,6 +48,7 @@ fn joined(high: u8, low: u8) -> u8
     16 * high + low
 }
 
+#[tactic(auto, using(crate::proofs::Pairing::decodings))]
 fn write_bytes(word: &[u8], room: &mut [u8])
     requires { (is_hex word.now ≡ true) × (length word.now / 2 ≤ length room.old) }
     ensures { room.new ≡ sets room.old 0 (bytes_of word.now) }
@@ -57,6 +60,7 @@ fn write_bytes(word: &[u8], room: &mut [u8])
 
 // Writes the bytes of a word at the front of the room, and answers how many they are; where the word is not hex, or its bytes do not
 // fit, the room stays as it was.
+#[tactic(auto, using(crate::proofs::Pairing::readings))]
 pub fn read_hex(word: &[u8], room: &mut [u8]) -> Result<usize, HexFault>
     ensures { (result, room.new) ≡ hex_into word.now room.old }
 {
@@ -72,6 +76,7 @@ pub fn read_hex(word: &[u8], room: &mut [u8]) -> Result<usize, HexFault>
 }
 
 // The byte of a digit below 16, in lower case.
+#[tactic(auto, using(crate::proofs::Pairing::glyphs))]
 fn glyph(d: u8) -> u8
     requires { d < 16 }
     ensures { result ≡ glyph d }
@@ -79,6 +84,7 @@ fn glyph(d: u8) -> u8
     if d < 10 { b'0' + d } else { b'a' + (d - 10) }
 }
 
+#[tactic(auto, using(crate::proofs::Pairing::encodings))]
 fn write_digits(bytes: &[u8], room: &mut [u8], at: usize)
     requires { at + 2 * length bytes.now ≤ length room.old }
     ensures { room.new ≡ sets room.old at (hex_digits bytes.now) }
@@ -90,6 +96,7 @@ fn write_digits(bytes: &[u8], room: &mut [u8], at: usize)
 }
 
 // Puts bytes in hex at a place of the room, and answers the place after them, as `put_text` does; `-` for none.
+#[tactic(auto, using(crate::proofs::Pairing::hex_puts))]
 pub fn put_hex(room: &mut [u8], at: usize, bytes: &[u8]) -> usize
     ensures { (result, room.new) ≡ written_at (hex_text bytes.now) at room.old }
 {

@@ -6,6 +6,7 @@ use numbers::copying::copy;
 
 // Puts bytes at a place of the room, and answers the place after them; where they do not fit the room stays as it was, and the
 // answer is the place itself.
+#[tactic(auto, using(crate::proofs::Putting::puts))]
 pub fn put_text(room: &mut [u8], at: usize, part: &[u8]) -> usize
     ensures { (result, room.new) ≡ written_at part.now at room.old }
 {
