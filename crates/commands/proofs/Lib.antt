@@ -1,3 +1,1 @@
-pub mod Naming
 pub mod Putting
-pub mod Reading

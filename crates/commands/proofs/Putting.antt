@@ -10,9 +10,7 @@ use Rattle.session.specs.declared.Session.{Session}
 use Rattle.lines.specs.Decimal.{decimal_text}
 use Rattle.lines.specs.Hex.{hex_text}
 use Rattle.commands.specs.Texts.{puts}
-use Rattle.commands.specs.Faults.{what}
 use Rattle.commands.specs.Replies.{refusal_texts, more_texts, record_texts}
-use Rattle.commands.specs.declared.fault.Fault.{Fault}
 
 module _ (t : List ℕ) (at : ℕ) (room : List ℕ) (x : ℕ × List ℕ) where
   pub put_one : x ≡ written_at t at room → x ≡ puts (t ∷ []) (at, room)
@@ -34,9 +32,6 @@ unfolding puts
 puts_behind [] us p q x e f = rw (← e) f
 puts_behind (t ∷ ts) us p q x e f = puts_behind ts us (written_at t p.0 p.1) q x e f
 
-pub put_what : (f g : Fault) (at : ℕ) (room : List ℕ) (x : ℕ × List ℕ) → f ≡ g → x ≡ written_at (what g) at room → x ≡ written_at (what f) at room
-put_what f g at room x e h = rw e h
-
 module _ (room : List ℕ) (x : ℕ × List ℕ) where
   pub put_refusal : (r : Refusal) (n p : ℕ) → n ≡ number_of r → p ≡ place_of r → (a : ℕ) (now : List ℕ) → (a, now) ≡ written_at (decimal_text n) 0 room
       → x ≡ puts (more_texts p) (a, now) → x ≡ puts (refusal_texts r) (0, room)
@@ -45,4 +40,4 @@ module _ (room : List ℕ) (x : ℕ × List ℕ) where
   pub put_session : (σ : Session) (bytes : List ℕ) → bytes ≡ session_bytes σ → x ≡ written_at (hex_text bytes) 0 room → x ≡ puts (record_texts σ) (0, room)
   put_session σ bytes e f = put_one (hex_text (session_bytes σ)) 0 room x (rw (← e) f)
 
-pub ruleset puttings = (put_one, put_two, put_what, put_refusal, put_session)
+pub ruleset puttings = (put_one, put_two, put_refusal, put_session)
