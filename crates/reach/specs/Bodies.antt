@@ -1,21 +1,21 @@
 -- The clauses by their heads, and the atoms of their bodies.
 use Rattle.std.specs.Prelude.{◌≡◌, List, ℕ, ◌+◌, ◌/◌, ◌<◌, ◌≤◌, length, get_or, replicate}
+use Rattle.gdl.specs.declared.arrays.ClauseArrays.{ClauseArrays}
 use Rattle.edges.specs.Uses.{IndexedFrom}
-use Rattle.edges.specs.Marks.{Queue}
 
--- h is an atom of the body of clause c
-pub record InBody (starts literals : List ℕ) (c h : ℕ) : Type 0 where
+-- h is an atom of the body of clause k
+pub record InBody (c : ClauseArrays) (k h : ℕ) : Type 0 where
   pub place : ℕ
-  pub from : get_or starts c 0 ≤ place
-  pub to : place < get_or starts (c + 1) 0
-  pub is_atom : get_or literals place 0 / 2 ≡ h
+  pub from : get_or c.starts.now k 0 ≤ place
+  pub to : place < get_or c.starts.now (k + 1) 0
+  pub is_atom : get_or c.literals.now place 0 / 2 ≡ h
 
 -- h is a "body atom of a clause whose head" is p
-pub record InBodies (heads starts literals : List ℕ) (p h : ℕ) : Type 0 where
+pub record InBodies (c : ClauseArrays) (p h : ℕ) : Type 0 where
   pub clause : ℕ
-  pub within : clause < length heads
-  pub is_head : get_or heads clause 0 ≡ p
-  pub in_body : InBody starts literals clause h
+  pub within : clause < length c.heads.now
+  pub is_head : get_or c.heads.now clause 0 ≡ p
+  pub in_body : InBody c clause h
 
 -- ---- the index
 
@@ -34,7 +34,7 @@ pub record Heads (heads : List ℕ) : Type 0 where
   pub few : length heads ≤ 2048
   pub atoms : (c : ℕ) → c < length heads → get_or heads c 0 < 1024
 
--- heads, and arrays for their index that know no clause yet
+-- heads, and an index that knows no clause yet
 pub record Unindexed (heads first next : List ℕ) : Type 0 where
   pub is_heads : Heads heads
   pub empty_clauses : first ≡ no_clauses
@@ -50,21 +50,9 @@ Indexed heads first next = ClausesFrom heads first next 0
 -- ---- what is asked
 
 -- clauses whose literals name atoms below 1,024
-pub record Clauses (heads starts literals : List ℕ) : Type 0 where
-  pub is_heads : Heads heads
-  pub long : length starts ≡ length heads + 1
-  pub ends : (c : ℕ) → c < length heads → get_or starts (c + 1) 0 ≤ length literals
-  pub few : length literals ≤ 8192
-  pub atoms : (k : ℕ) → k < length literals → get_or literals k 0 / 2 < 1024
-
-pub record BodyAsked (starts literals : List ℕ) (c : ℕ) (m q : List ℕ) (n : ℕ) : Type 0 where
-  pub heads : List ℕ
-  pub clauses : Clauses heads starts literals
-  pub within : c < length heads
-  pub queue : Queue m q n
-
-pub record BodiesAsked (heads starts literals first next : List ℕ) (p : ℕ) (m q : List ℕ) (n : ℕ) : Type 0 where
-  pub clauses : Clauses heads starts literals
-  pub index : Indexed heads first next
-  pub atom : p < 1024
-  pub queue : Queue m q n
+pub record Clauses (c : ClauseArrays) : Type 0 where
+  pub is_heads : Heads c.heads.now
+  pub long : length c.starts.now ≡ length c.heads.now + 1
+  pub ends : (k : ℕ) → k < length c.heads.now → get_or c.starts.now (k + 1) 0 ≤ length c.literals.now
+  pub few : length c.literals.now ≤ 8192
+  pub atoms : (j : ℕ) → j < length c.literals.now → get_or c.literals.now j 0 / 2 < 1024

@@ -4,19 +4,21 @@ use Rattle.gdl.specs.Game.{Game}
 use Rattle.gdl.specs.Reach.{Reach}
 use Rattle.gdl.specs.Flags.{on}
 use Rattle.gdl.specs.Layout.{kinds_of, firsts_of, heads_of, starts_from, literals_of, Small}
+use Rattle.gdl.specs.declared.arrays.AtomArrays.{AtomArrays}
+use Rattle.gdl.specs.declared.arrays.ClauseArrays.{ClauseArrays}
 
 -- the arrays are those of the game: of the atoms the kinds and the first fields, and of the clauses the heads and the literals
-pub record Laid (G : Game) (kinds firsts heads starts literals : List ℕ) : Type 0 where
-  pub is_kinds : kinds ≡ kinds_of G.atoms
-  pub is_firsts : firsts ≡ firsts_of G.atoms
-  pub is_heads : heads ≡ heads_of G.clauses
-  pub is_starts : starts ≡ starts_from 0 G.clauses
-  pub is_literals : literals ≡ literals_of G.clauses
+pub record Laid (G : Game) (a : AtomArrays) (c : ClauseArrays) : Type 0 where
+  pub is_kinds : a.kinds.now ≡ kinds_of G.atoms
+  pub is_firsts : a.firsts.now ≡ firsts_of G.atoms
+  pub is_heads : c.heads.now ≡ heads_of G.clauses
+  pub is_starts : c.starts.now ≡ starts_from 0 G.clauses
+  pub is_literals : c.literals.now ≡ literals_of G.clauses
 
 -- the arrays hold a game of a table's size
-pub record Ready (kinds firsts heads starts literals : List ℕ) : Type 0 where
+pub record Ready (a : AtomArrays) (c : ClauseArrays) : Type 0 where
   pub game : Game
-  pub laid : Laid game kinds firsts heads starts literals
+  pub laid : Laid game a c
   pub small : Small game
 
 -- the flags that are 1 are the reach of the seat: 1,024 flags, 0 or 1, none set after the last atom
