@@ -1,5 +1,6 @@
 // Which command a line is, by its first word, and how many words it takes.
 ghost use Rattle.std.specs.Prelude.{◌≡◌};
+ghost use Rattle.commands.specs.Texts.{same};
 ghost use Rattle.commands.specs.Commands.{command_of, fewest, most};
 
 #[derive(Clone, Copy, PartialEq, Eq, Debug)]
@@ -18,25 +19,54 @@ pub enum Command {
     Help,
 }
 
+fn is(word: &[u8], name: &[u8]) -> bool
+    ensures { result ≡ same word.now name.now }
+{
+    word == name
+}
+
 // The command of a name, if it is one.
+#[tactic(auto, unfolding(crate::specs::Commands::named))]
 pub fn command_of(word: &[u8]) -> Option<Command>
     ensures { result ≡ command_of word.now }
 {
-    match word {
-        b"table" => Some(Command::Table),
-        b"load" => Some(Command::Load),
-        b"check" => Some(Command::Check),
-        b"claim" => Some(Command::Claim),
-        b"open" => Some(Command::Open),
-        b"offer" => Some(Command::Offer),
-        b"play" => Some(Command::Play),
-        b"message" => Some(Command::Message),
-        b"hidden" => Some(Command::Hidden),
-        b"model" => Some(Command::Model),
-        b"record" => Some(Command::Record),
-        b"help" => Some(Command::Help),
-        _ => None,
+    if is(word, b"table") {
+        return Some(Command::Table);
     }
+    if is(word, b"load") {
+        return Some(Command::Load);
+    }
+    if is(word, b"check") {
+        return Some(Command::Check);
+    }
+    if is(word, b"claim") {
+        return Some(Command::Claim);
+    }
+    if is(word, b"open") {
+        return Some(Command::Open);
+    }
+    if is(word, b"offer") {
+        return Some(Command::Offer);
+    }
+    if is(word, b"play") {
+        return Some(Command::Play);
+    }
+    if is(word, b"message") {
+        return Some(Command::Message);
+    }
+    if is(word, b"hidden") {
+        return Some(Command::Hidden);
+    }
+    if is(word, b"model") {
+        return Some(Command::Model);
+    }
+    if is(word, b"record") {
+        return Some(Command::Record);
+    }
+    if is(word, b"help") {
+        return Some(Command::Help);
+    }
+    None
 }
 
 // The fewest words that a command has behind its name, and the most.

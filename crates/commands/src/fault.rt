@@ -62,6 +62,7 @@ fn what(fault: Fault) -> &'static [u8]
 }
 
 // "error WHAT"
+#[tactic(auto, using(crate::proofs::Putting::puttings))]
 pub fn put_fault(room: &mut [u8], fault: Fault) -> usize
     ensures { (result, room.new) ≡ puts (error_texts fault) (0, room.old) }
 {

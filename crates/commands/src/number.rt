@@ -6,6 +6,7 @@ use crate::fault::Fault;
 use lines::decimal::read_decimal;
 use lines::words::{count_words, word};
 
+#[tactic(auto, unfolding(crate::specs::Numbers::number_at))]
 pub fn number_at(line: &[u8], k: usize) -> Result<u16, Fault>
     ensures { result ≡ number_at line.now k }
 {
@@ -13,6 +14,7 @@ pub fn number_at(line: &[u8], k: usize) -> Result<u16, Fault>
 }
 
 // The bytes lent, "default 1024".
+#[tactic(auto, unfolding(crate::specs::Numbers::room_at))]
 pub fn room_at(line: &[u8], k: usize) -> Result<u16, Fault>
     ensures { result ≡ room_at line.now k }
 {

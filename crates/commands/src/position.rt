@@ -13,6 +13,7 @@ pub struct Placed {
 }
 
 // Wrong hex in either word is told before a wrong length.
+#[tactic(auto, unfolding(crate::specs::Placing::placed, crate::specs::Placing::wrong_in))]
 pub fn place(position: &[u8], choices: &[u8]) -> Result<Placed, Fault>
     ensures { result ≡ placed position.now choices.now }
 {

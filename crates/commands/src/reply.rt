@@ -11,14 +11,16 @@ use session::Session;
 use session::bytes::to_bytes;
 
 // "NUMBER PLACE"
+#[tactic(auto, using(crate::proofs::Putting::puttings))]
 pub fn put_refusal(room: &mut [u8], refusal: Refusal) -> usize
     ensures { (result, room.new) ≡ puts (refusal_texts refusal) (0, room.old) }
 {
-    let at = put_decimal(room, 0, refusals::number_of(refusal) as u64);
+    let at = put_decimal(room, 0, u64::from(refusals::number_of(refusal)));
     put_more(room, at, refusals::place_of(refusal) as u64)
 }
 
 // One more number.
+#[tactic(auto, using(crate::proofs::Putting::puttings))]
 pub fn put_more(room: &mut [u8], at: usize, x: u64) -> usize
     ensures { (result, room.new) ≡ puts (more_texts x) (at, room.old) }
 {
@@ -27,6 +29,7 @@ pub fn put_more(room: &mut [u8], at: usize, x: u64) -> usize
 }
 
 // Bytes behind what is there.
+#[tactic(auto, using(crate::proofs::Putting::puttings))]
 pub fn put_bytes(room: &mut [u8], at: usize, bytes: &[u8]) -> usize
     ensures { (result, room.new) ≡ puts (bytes_texts bytes.now) (at, room.old) }
 {
@@ -35,6 +38,7 @@ pub fn put_bytes(room: &mut [u8], at: usize, bytes: &[u8]) -> usize
 }
 
 // "ok LENGTH"
+#[tactic(auto, using(crate::proofs::Putting::puttings))]
 pub fn put_ok(room: &mut [u8], length: usize) -> usize
     ensures { (result, room.new) ≡ puts (ok_texts length) (0, room.old) }
 {
@@ -42,6 +46,7 @@ pub fn put_ok(room: &mut [u8], length: usize) -> usize
     put_decimal(room, next, length as u64)
 }
 
+#[tactic(auto, using(crate::proofs::Putting::puttings))]
 pub fn put_record(room: &mut [u8], session: Session) -> usize
     ensures { (result, room.new) ≡ puts (record_texts session) (0, room.old) }
 {
