@@ -12,10 +12,6 @@ counted l = length l ∷ l
 abbrev pub from : List ℕ → ℕ → ℕ → Bool
 from l start i = on l (start + i)
 
-pub record Within (start n : ℕ) : Type 0 where
-  pub few : n ≤ 256
-  pub end : start + n ≤ 2048
-
 -- "seat; round; 1 if over else 0"
 abbrev pub head_numbers : Sheet → List ℕ
 head_numbers m = m.seat ∷ m.round ∷ bit m.over ∷ []

@@ -1,86 +1,45 @@
 // The message of a seat, written into lent room in house numbers.
 #![tactic(auto)]
 
-ghost use Rattle.std.specs.Prelude.{◌≡◌, cond, [], ◌∷◌, ◌≤◌, eqb, length};
-ghost use Rattle.gdl.specs.Flags.{bit};
+ghost use Rattle.std.specs.Prelude.{◌≡◌, ◌≤◌, length};
+ghost use Rattle.gdl.specs.Flags.{on};
 ghost use Rattle.numbers.specs.Writing.{written};
 ghost use Rattle.gdl.specs.Lists.{those};
-ghost use Rattle.message.specs.Message.{from, counted, Within, head_numbers, message_of, Fits};
+ghost use Rattle.message.specs.Message.{counted, head_numbers, message_of, Fits};
 
-// 1 for a flag that is set.
-fn one(flag: u8) -> u16
-    ensures { (result ≡ bit (eqb flag 1)) × (result ≤ 1) }
+// How many of the flags are 1.
+#[tactic(auto, using(crate::proofs::Lists::counted_ones))]
+fn count_those(flags: &[u8]) -> u16
+    requires { length flags.now ≤ 256 }
+    ensures { result ≡ length (those (length flags.now) (on flags.now)) }
 {
-    if flag == 1 {
-        return 1;
-    }
-    0
+    flags.iter().filter(|flag| **flag == 1).count() as u16
 }
 
-// How many of n flags from `start` on are 1.
-fn count_those(flags: &[u8; 2048], start: usize, n: usize) -> u16
-    requires { Within start n }
-    ensures { result ≡ length (those n (from flags.now start)) }
-{
-    let mut many: u16 = 0;
-    let mut i: usize = 0;
-    while i < n {
-        many += one(flags[start + i]);
-        i += 1;
-    }
-    many
-}
-
-// Writes a number, if its flag is set, and answers the place after it.
-fn put_if(room: &mut [u8], at: usize, flag: u8, v: u16) -> usize
-    ensures { (result, room.new) ≡ written (cond (eqb flag 1) (v ∷ []) []) (at, room.old) }
-{
-    if flag == 1 {
-        return numbers::write_number(room, at, v);
-    }
-    at
-}
-
-// Writes the number of each of n flags from `start` on that is 1, ascending, and answers the place after them.
-fn put_those(room: &mut [u8], at: usize, flags: &[u8; 2048], start: usize, n: usize) -> usize
-    requires { Within start n }
-    ensures { (result, room.new) ≡ written (those n (from flags.now start)) (at, room.old) }
+// Writes the number of each flag that is 1, ascending, and answers the place after them.
+#[tactic(auto, using(crate::proofs::Lists::puttings))]
+fn put_those(room: &mut [u8], at: usize, flags: &[u8]) -> usize
+    requires { length flags.now ≤ 256 }
+    ensures { (result, room.new) ≡ written (those (length flags.now) (on flags.now)) (at, room.old) }
 {
     let mut next = at;
-    let mut i: usize = 0;
-    while i < n {
-        next = put_if(room, next, flags[start + i], i as u16);
-        i += 1;
+    for (i, flag) in flags.iter().enumerate() {
+        if *flag == 1 {
+            next = numbers::write_number(room, next, i as u16);
+        }
     }
     next
 }
 
 // Writes "count of .. and the .. ascending".
-fn put_counted(room: &mut [u8], at: usize, flags: &[u8; 2048], start: usize, n: usize) -> usize
-    requires { Within start n }
-    ensures { (result, room.new) ≡ written (counted (those n (from flags.now start))) (at, room.old) }
+#[tactic(auto, using(crate::proofs::Lists::puts_counted))]
+fn put_counted(room: &mut [u8], at: usize, flags: &[u8]) -> usize
+    requires { length flags.now ≤ 256 }
+    ensures { (result, room.new) ≡ written (counted (those (length flags.now) (on flags.now))) (at, room.old) }
 {
-    let many = count_those(flags, start, n);
+    let many = count_those(flags);
     let next = numbers::write_number(room, at, many);
-    put_those(room, next, flags, start, n)
-}
-
-// The same where it is told, and else a count of 0.
-fn put_counted_if(
-    room: &mut [u8],
-    at: usize,
-    told: bool,
-    flags: &[u8; 2048],
-    start: usize,
-    n: usize,
-) -> usize
-    requires { Within start n }
-    ensures { (result, room.new) ≡ written (counted (cond told (those n (from flags.now start)) [])) (at, room.old) }
-{
-    if told {
-        return put_counted(room, at, flags, start, n);
-    }
-    numbers::write_number(room, at, 0)
+    put_those(room, next, flags)
 }
 
 // What a message says beside its lists, and how many percepts and moves there are.
@@ -94,18 +53,17 @@ pub struct Sheet {
 }
 
 // "seat; round; 1 if over else 0"
+#[tactic(auto, using(crate::proofs::Lists::head_written))]
 fn put_head(room: &mut [u8], sheet: Sheet) -> usize
     ensures { (result, room.new) ≡ written (head_numbers sheet) (0, room.old) }
 {
     let a = numbers::write_number(room, 0, sheet.seat);
     let b = numbers::write_number(room, a, sheet.round);
-    if sheet.over {
-        return numbers::write_number(room, b, 1);
-    }
-    numbers::write_number(room, b, 0)
+    numbers::write_number(room, b, u16::from(sheet.over))
 }
 
-// Writes the message of a seat and answers its length. The flags of percepts, moves and goals are at seat * 256 and on.
+// Writes the message of a seat and answers its length. The flags of percepts, moves and goals are at seat * 256 and on; of the moves none
+// is told when the game is over, and of the goals none before.
 pub fn write_message(
     room: &mut [u8],
     sheet: Sheet,
@@ -116,9 +74,15 @@ pub fn write_message(
     requires { Fits sheet }
     ensures { (result, room.new) ≡ written (message_of sheet percepts.now legal.now goals.now) (0, room.old) }
 {
-    let start = (sheet.seat as usize) * 256;
+    let start = usize::from(sheet.seat) * 256;
+    let moves = if sheet.over { 0 } else { sheet.moves };
+    let values = if sheet.over { 101 } else { 0 };
     let a = put_head(room, sheet);
-    let b = put_counted(room, a, percepts, start, sheet.percepts as usize);
-    let c = put_counted_if(room, b, !sheet.over, legal, start, sheet.moves as usize);
-    put_counted_if(room, c, sheet.over, goals, start, 101)
+    let b = put_counted(
+        room,
+        a,
+        &percepts[start..start + usize::from(sheet.percepts)],
+    );
+    let c = put_counted(room, b, &legal[start..start + usize::from(moves)]);
+    put_counted(room, c, &goals[start..start + values])
 }

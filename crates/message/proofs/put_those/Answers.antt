@@ -1,13 +1,11 @@
 -- Up to flag i the numbers of the flags passed are written.
-use Rattle.message.proofs.Lists.{puttings}
-use borrow.Author.Rules.{rules}
+use Rattle.message.proofs.Lists.{putting_more, putting_same}
 use Rattle.message.proofs.put_those.Goals as goal
-
-pub loop-i-init : goal.loop-i-init
-loop-i-init c = search (rules, puttings)
+use Rattle.message.proofs.put_those.Goals.{then-flag-eq1, else-flag-eq1}
 
 pub loop-i-preserved : goal.loop-i-preserved
-loop-i-preserved c = search (rules, puttings)
-
-pub returns : goal.returns
-returns c = search (rules, puttings)
+loop-i-preserved c =
+    elim c.if-flag-eq1.branch [
+      | then-flag-eq1 w ↦ rw (w.room-is, w.next-is) (putting_more _ _ _ _ _ _ c.loop-i.invariant c.loop-i-test.true w.if-flag-eq1.true _ _ w.write_number-next.ensures)
+      | else-flag-eq1 w ↦ rw (w.room-is, w.next-is) (putting_same _ _ _ _ _ _ c.loop-i.invariant c.loop-i-test.true w.if-flag-eq1.false)
+    ]
