@@ -77,12 +77,11 @@ pub fn write_message(
     let start = usize::from(sheet.seat) * 256;
     let moves = if sheet.over { 0 } else { sheet.moves };
     let values = if sheet.over { 101 } else { 0 };
+    let percepts = &percepts[start..start + usize::from(sheet.percepts)];
+    let legal = &legal[start..start + usize::from(moves)];
+    let goals = &goals[start..start + values];
     let a = put_head(room, sheet);
-    let b = put_counted(
-        room,
-        a,
-        &percepts[start..start + usize::from(sheet.percepts)],
-    );
-    let c = put_counted(room, b, &legal[start..start + usize::from(moves)]);
-    put_counted(room, c, &goals[start..start + values])
+    let b = put_counted(room, a, percepts);
+    let c = put_counted(room, b, legal);
+    put_counted(room, c, goals)
 }
