@@ -5,8 +5,10 @@ use Prim.Native.Nat.{ℕ, zero, suc, ◌+◌, ◌-◌, ◌*◌}
 use lib.Dec.{T, ltb, leb}
 use lib.ListN.{length}
 use Rattle.numbers.specs.Number.{number_at}
-use Rattle.numbers.specs.declared.Number.{Number}
-use Rattle.numbers.specs.declared.Number.TheVariants.{Read, Cut, Long, Large}
+use Rattle.std.specs.Prelude.{Result, Ok, Err}
+use Rattle.numbers.specs.declared.Item.{Item}
+use Rattle.numbers.specs.declared.Fault.{Fault}
+use Rattle.numbers.specs.declared.Fault.TheVariants.{Cut, Long, Large}
 use Rattle.numbers.proofs.Reading.{by_test}
 use Rattle.refusals.specs.Refusal.{number_of}
 use Rattle.refusals.specs.declared.Refusal.{Refusal}
@@ -27,13 +29,13 @@ faults_after : {A B : Type 0} (p : Parse A) (k : A → ℕ → Parse B) → Faul
 faults_after (ok a n) k h f = f a n
 faults_after (fault g) k h f = h
 
-in_range_lem : (lo end at : ℕ) (x : Number) → Faults (in_range lo end at x)
-in_range_lem lo end at (Read v n) =
-    by_test Faults (ltb v lo) (λ _. tt) λ l.
-    by_test Faults (leb end v) (λ _. tt) λ u. tt
-in_range_lem lo end at Cut = tt
-in_range_lem lo end at Long = tt
-in_range_lem lo end at Large = tt
+in_range_lem : (lo end at : ℕ) (x : Result Item Fault) → Faults (in_range lo end at x)
+in_range_lem lo end at (Ok i) =
+    by_test Faults (ltb i.value lo) (λ _. tt) λ l.
+    by_test Faults (leb end i.value) (λ _. tt) λ u. tt
+in_range_lem lo end at (Err Cut) = tt
+in_range_lem lo end at (Err Long) = tt
+in_range_lem lo end at (Err Large) = tt
 
 bounded_faults : (lo end : ℕ) (s : List ℕ) (at : ℕ) → Faults (bounded lo end s at)
 unfolding bounded

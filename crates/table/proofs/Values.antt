@@ -9,14 +9,14 @@ use borrow.Author.Tests.{ltb-false, leb-false}
 use Rattle.numbers.specs.Number.{number_at}
 use Rattle.numbers.proofs.Reading as N
 use Rattle.numbers.proofs.Reading.{by_test}
-use Rattle.numbers.specs.declared.Number.{Number}
-use Rattle.numbers.specs.declared.Number.TheVariants.{Read, Cut, Long, Large}
+use Rattle.std.specs.Prelude.{Result, Ok, Err}
+use Rattle.refusals.specs.declared.Refusal.{Refusal}
+use Rattle.numbers.specs.declared.Item.{Item}
+use Rattle.numbers.specs.declared.Fault.{Fault}
 use Rattle.table.specs.Parse.{Parse, ok, fault, after, in_range, bounded}
 use Rattle.table.specs.Table.{players, sizes, header}
-use Rattle.table.specs.Says.{head_says}
+use Rattle.table.specs.Says.{says}
 use Rattle.table.specs.declared.header.Header.{Header}
-use Rattle.table.specs.declared.header.Head.{Head}
-use Rattle.table.specs.declared.header.Head.TheVariants as H
 
 -- what holds of every value that a reading gives
 abbrev pub All : {A : Type 0} → (A → ℕ → Type 0) → Parse A → Type 0
@@ -35,18 +35,21 @@ pub record Fine (s : List ℕ) (at lo end v n : ℕ) : Type 0 where
   pub on : at < n
   pub in_it : n ≤ length s
 
-in_range_lem : (s : List ℕ) (at lo end : ℕ) (x : Number) → N.Sound s at x → All (Fine s at lo end) (in_range lo end at x)
-in_range_lem s at lo end (Read v n) h =
-    by_test (All (Fine s at lo end)) (ltb v lo) (λ _. tt) λ l.
-    by_test (All (Fine s at lo end)) (leb end v) (λ _. tt) λ u.
-    record { low = ltb-false v lo l; high = leb-false end v u; on = h.0; in_it = h.1 }
-in_range_lem s at lo end Cut h = tt
-in_range_lem s at lo end Long h = tt
-in_range_lem s at lo end Large h = tt
+in_range_lem : (s : List ℕ) (at lo end : ℕ) (x : Result Item Fault) → N.Sound s at x → All (Fine s at lo end) (in_range lo end at x)
+in_range_lem s at lo end (Ok i) h =
+    by_test (All (Fine s at lo end)) (ltb i.value lo) (λ _. tt) λ l.
+    by_test (All (Fine s at lo end)) (leb end i.value) (λ _. tt) λ u.
+    record { low = ltb-false i.value lo l; high = leb-false end i.value u; on = h.0; in_it = h.1 }
+in_range_lem s at lo end (Err f) h = tt
 
 pub bounded_fine : (lo end : ℕ) (s : List ℕ) (at : ℕ) → All (Fine s at lo end) (bounded lo end s at)
 unfolding bounded
 bounded_fine lo end s at = in_range_lem s at lo end (number_at s at) (N.sound s at)
+
+pub read_below : (v n lo end : ℕ) (s : List ℕ) (at : ℕ) → ok v n ≡ bounded lo end s at → v < end
+read_below v n lo end s at e = let f : Fine s at lo end v n = rw (← e) at (bounded_fine lo end s at) in f.high
+
+pub ruleset belows = (read_below)
 
 pub sizes_fine : (s : List ℕ) (at : ℕ) → All (λ z n. z.atoms ≤ 1024) (sizes s at)
 unfolding sizes
@@ -64,5 +67,5 @@ pub header_fine : (s : List ℕ) (at : ℕ) → All (λ h n. h.sizes.atoms ≤ 1
 unfolding header
 header_fine s at = all_after _ _ (players s at) _ (any (players s at)) λ p n _. all_after _ _ (sizes s n) _ (sizes_fine s n) λ z m h. h
 
-pub few_atoms_lem : (s : List ℕ) (at : ℕ) (r : Head) (h : Header) (n : ℕ) → head_says r ≡ header s at → r ≡ H.Good h n → h.sizes.atoms ≤ 1024
-few_atoms_lem s at r h n e g = rw (← e, g) at (header_fine s at)
+pub few_atoms_lem : (s : List ℕ) (at : ℕ) (r : Result (Header × ℕ) Refusal) (x : Header × ℕ) → says r ≡ header s at → r ≡ Ok x → x.0.sizes.atoms ≤ 1024
+few_atoms_lem s at r x e g = rw (← e, g) at (header_fine s at)

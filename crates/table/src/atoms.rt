@@ -31,6 +31,7 @@ fn second_ends(h: Header) -> [u32; 10]
 }
 
 // A field that a kind may lack: then it counts as 0 and takes no byte.
+#[tactic(auto, using(crate::proofs::Readers::field_laws))]
 fn read_optional(s: &[u8], at: usize, end: u32) -> Result<Item, Refusal>
     ensures { (b : Bound) → end_of b ≡ end → field_says result ≡ field b s.now at }
 {
@@ -48,6 +49,7 @@ pub struct AtomRecord {
 }
 
 // Reads an atom record; with it goes the place after it.
+#[tactic(auto, using(crate::proofs::Values::belows), unfolding(crate::specs::Table::atom))]
 fn read_atom(
     s: &[u8],
     at: usize,
@@ -69,6 +71,7 @@ fn read_atom(
 }
 
 // The place of an atom in the order: by kind, then first field, then second.
+#[tactic(auto, unfolding(crate::specs::Table::key))]
 fn key_of(a: AtomRecord) -> u64
     ensures { (result ≡ key_of a) × (result < 281474976710656) }
 {
@@ -76,6 +79,7 @@ fn key_of(a: AtomRecord) -> u64
 }
 
 // Reads the atom records into lent room, and answers the place after them.
+#[tactic(auto, using(crate::proofs::AtomRecords::readings))]
 pub fn read_atoms(s: &[u8], at: usize, h: Header, room: &mut AtomRoom) -> Result<usize, Refusal>
     requires { h.sizes.atoms ≤ 1024 }
     ensures { WroteAtoms (atoms_from h h.sizes.atoms 0 s.now at) room.old result room.new }

@@ -17,6 +17,7 @@ fn refusal_of(fault: Fault, at: usize) -> Refusal
 }
 
 // A number from `lo` up to but not at `end`.
+#[tactic(auto, using(crate::proofs::Readers::numbers))]
 pub fn read_field(s: &[u8], at: usize, lo: u16, end: u32) -> Result<Item, Refusal>
     ensures { field_says result ≡ bounded lo end s.now at }
 {

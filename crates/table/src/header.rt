@@ -28,6 +28,7 @@ pub struct Header {
 }
 
 // Each of these answers, beside what it read, the place after it.
+#[tactic(auto, unfolding(crate::specs::Table::players))]
 fn read_players(s: &[u8]) -> Result<(Players, usize), Refusal>
     ensures { says result ≡ players s.now 0 }
 {
@@ -43,6 +44,7 @@ fn read_players(s: &[u8]) -> Result<(Players, usize), Refusal>
     Ok((players, chance.next))
 }
 
+#[tactic(auto, unfolding(crate::specs::Table::sizes))]
 fn read_sizes(s: &[u8], at: usize) -> Result<(Sizes, usize), Refusal>
     ensures { says result ≡ sizes s.now at }
 {
@@ -59,6 +61,7 @@ fn read_sizes(s: &[u8], at: usize) -> Result<(Sizes, usize), Refusal>
     Ok((sizes, atoms.next))
 }
 
+#[tactic(auto, unfolding(crate::specs::Table::header))]
 pub fn read_header(s: &[u8]) -> Result<(Header, usize), Refusal>
     ensures { says result ≡ header s.now 0 }
 {
