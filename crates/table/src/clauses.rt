@@ -10,6 +10,7 @@ use gdl::Atom;
 use refusals::Refusal;
 
 // Reads count literals, each below end, into the room from used on, and answers the place after them.
+#[tactic(auto, using(crate::proofs::ClauseRecords::fillings))]
 fn read_literals(
     s: &[u8],
     at: usize,
@@ -38,6 +39,7 @@ pub struct Outline {
 }
 
 // Reads a clause, its literals into the room from used on; with it goes the place after it.
+#[tactic(auto, unfolding(crate::specs::Table::clause))]
 fn read_clause(
     s: &[u8],
     at: usize,
