@@ -1,16 +1,16 @@
 // The calls over numbers and byte slices, for a host that is not written in Rattle; the crate host_c exports them as C functions.
-#![tactic(auto)]
+#![tactic(auto, using(crate::proofs::Hosting::hostings))]
 
-mod records; // records and positions in their byte form
+mod records; // records handed back in their byte form
 
 ghost use Rattle.std.specs.Prelude.{◌≡◌};
 ghost use Rattle.rules.specs.Judged.{judge};
 ghost use Rattle.host.specs.Hosted.{said, wrong_length, CheckHosted, claim_hosted, open_hosted, offer_hosted, play_hosted, message_hosted, HiddenHosted, ModelHosted};
 
 use gdl::{Move, Seat};
-use records::{hand_back, hand_out, position_of};
+use records::{hand_back, hand_out};
 use refusals::{Refusal, number_of, place_of};
-use session::bytes::{read_choices, session_of};
+use session::bytes::{read_choices, read_record};
 
 // The number and the place of a refusal, and the call's own number: the claim, the length or the hidden answer, and else 0.
 #[repr(C)]
@@ -25,7 +25,7 @@ fn said(refusal: Refusal, value: u64) -> Answer
     ensures { result ≡ said refusal value }
 {
     Answer {
-        number: number_of(refusal) as u64,
+        number: u64::from(number_of(refusal)),
         place: place_of(refusal) as u64,
         value,
     }
@@ -52,8 +52,7 @@ pub fn embalume_claim(table: &[u8]) -> Answer
     ensures { result ≡ claim_hosted (judge table.now) }
 {
     let claimed = referee::claim(table);
-    let refusal = claimed.refusal;
-    said(refusal, claimed.claim as u64)
+    said(claimed.refusal, u64::from(claimed.claim))
 }
 
 pub fn embalume_open(table: &[u8], bytes: &mut [u8]) -> Answer
@@ -68,10 +67,9 @@ pub fn embalume_open(table: &[u8], bytes: &mut [u8]) -> Answer
 pub fn embalume_offer(table: &[u8], bytes: &mut [u8], seat: u16, choice: u16) -> Answer
     ensures { (result, bytes.new) ≡ offer_hosted (judge table.now) seat choice bytes.old }
 {
-    if bytes.len() != 2580 {
+    let Some(session) = read_record(bytes) else {
         return wrong_length();
-    }
-    let session = session_of(bytes);
+    };
     hand_back(
         referee::offer(table, session, Seat(seat), Move(choice)),
         bytes,
@@ -81,43 +79,39 @@ pub fn embalume_offer(table: &[u8], bytes: &mut [u8], seat: u16, choice: u16) ->
 pub fn embalume_play(table: &[u8], bytes: &mut [u8]) -> Answer
     ensures { (result, bytes.new) ≡ play_hosted (judge table.now) bytes.old }
 {
-    if bytes.len() != 2580 {
+    let Some(session) = read_record(bytes) else {
         return wrong_length();
-    }
-    let session = session_of(bytes);
+    };
     hand_back(referee::play(table, session), bytes)
 }
 
 pub fn embalume_message(table: &[u8], bytes: &[u8], seat: u16, room: &mut [u8]) -> Answer
     ensures { (result, room.new) ≡ message_hosted (judge table.now) bytes.now seat room.old }
 {
-    if bytes.len() != 2580 {
+    let Some(session) = read_record(bytes) else {
         return wrong_length();
-    }
-    let session = session_of(bytes);
+    };
     let sent = referee::message(table, session, Seat(seat), room);
-    let refusal = sent.refusal;
-    said(refusal, sent.length as u64)
+    said(sent.refusal, sent.length as u64)
 }
 
 pub fn embalume_hidden(table: &[u8], asking: u16, moving: u16, choice: u16) -> Answer
     ensures { HiddenHosted (judge table.now) asking moving choice result }
 {
     let looked = referee::hidden(table, Seat(asking), Seat(moving), Move(choice));
-    let refusal = looked.refusal;
-    said(refusal, looked.hidden as u64)
+    said(looked.refusal, u64::from(looked.hidden))
 }
 
 pub fn embalume_model(table: &[u8], position: &[u8], choices: &[u8], room: &mut [u8]) -> Answer
     ensures { ModelHosted (judge table.now) position.now choices.now room.old (result, room.new) }
 {
-    if position.len() != 512 {
+    if position.len() != 512 || choices.len() != 16 {
         return wrong_length();
     }
-    if choices.len() != 16 {
-        return wrong_length();
-    }
-    let flags = position_of(position);
-    let chosen = read_choices(choices, 0);
-    said(referee::model(table, flags, chosen, room), 0)
+    let mut flags = [0; 512];
+    flags.copy_from_slice(position);
+    said(
+        referee::model(table, flags, read_choices(choices, 0), room),
+        0,
+    )
 }
