@@ -1,11 +1,14 @@
 -- The answer of a search for the lowest seat at which a test strikes.
-use Rattle.std.specs.Prelude.{◌≡◌, Bool, true, false, not, List, ℕ, ◌+◌, ◌*◌, ◌-◌, ◌≤◌, ◌<◌, eqb, get_or}
+use Rattle.std.specs.Prelude.{◌≡◌, Bool, true, false, not, List, ℕ, ◌+◌, ◌*◌, ◌-◌, ◌≤◌, ◌<◌, eqb, get_or, Option, Some, None}
 
--- r is the lowest of the first n numbers that passes, or n where none does
-pub record LowestOr (f : ℕ → Bool) (n r : ℕ) : Type 0 where
-  pub within : r ≤ n
-  pub passes : r < n → f r ≡ true
-  pub none : (q : ℕ) → q < r → f q ≡ false
+-- none of the first n numbers passes
+abbrev pub NoneBelow : (ℕ → Bool) → ℕ → Type 0
+NoneBelow f n = (q : ℕ) → q < n → f q ≡ false
+
+-- the lowest of the first n numbers that passes
+abbrev pub IsLowest : (ℕ → Bool) → ℕ → Option ℕ → Type 0
+IsLowest f n None = NoneBelow f n
+IsLowest f n (Some r) = (r < n) × (f r ≡ true) × NoneBelow f r
 
 -- "a seat has no choice"; "move not legal", by the marks of the legal moves in rows of 256
 abbrev pub lacks : List ℕ → ℕ → Bool

@@ -5,5 +5,5 @@ pub mod looks; // hidden
 pub mod moves; // offer
 pub mod opens; // open
 pub mod plays; // play
-pub mod positions; // limits, blank rooms, positions from marks
+pub mod positions; // limits, and positions from marks
 pub mod tells; // message and model

@@ -7,57 +7,45 @@ ghost use Rattle.rules.specs.Verdict.{fit};
 ghost use Rattle.verdict.specs.Consulted.{found, found_in};
 ghost use Rattle.calls.specs.Calls.{hidden_from};
 ghost use Rattle.answers.specs.Asked.{Traced};
+ghost use Rattle.answers.specs.Outcome.{looked_from};
 
 use crate::positions::limits_of;
 use calls::Looked;
+use gdl::kinds::Kind;
 use gdl::{Move, Seat};
 use refusals::Refusal;
-use table::header::Header;
-use verdict::marks_in;
+use verdict::{Learnt, marks_in};
 
-// "hidden 15 (asking seat, then moving seat), 16". A does atom that is not in the table reaches nobody.
-pub fn hidden_fit(
-    header: Header,
-    kinds: &[u16; 1024],
-    firsts: &[u16; 1024],
-    seconds: &[u16; 1024],
-    flags: &[u8; 1024],
-    asking: Seat,
-    moving: Seat,
-    choice: Move,
-) -> Looked
-    requires { Traced (found header kinds.now firsts.now seconds.now flags.now) asking.0 }
-    ensures { (G : Game) → Accepted G → found header kinds.now firsts.now seconds.now flags.now ≡ found_in G (reach_of G asking.0) → result ≡ hidden_from (fit G) asking.0 moving.0 choice.0 }
+// 1 where the move is hidden from the asking seat, else 0. A does atom that is not in the table reaches nobody.
+fn looked(learnt: &Learnt, asking: Seat, moving: Seat, choice: Move) -> Result<u8, Refusal>
+    requires { Traced (found learnt.now) asking.0 }
+    ensures { (G : Game) → Accepted G → found learnt.now ≡ found_in G (reach_of G asking.0) → looked_from result ≡ hidden_from (fit G) asking.0 moving.0 choice.0 }
 {
-    let limits = limits_of(header);
+    let limits = limits_of(learnt.header);
     if limits.seats <= asking.0 {
-        return Looked {
-            refusal: Refusal::NoSuchSeat,
-            hidden: 0,
-        };
+        return Err(Refusal::NoSuchSeat);
     }
     if limits.seats <= moving.0 {
-        return Looked {
-            refusal: Refusal::NoSuchSeat,
-            hidden: 0,
-        };
+        return Err(Refusal::NoSuchSeat);
     }
     if limits.moves <= choice.0 {
-        return Looked {
-            refusal: Refusal::NoSuchMove,
-            hidden: 0,
-        };
+        return Err(Refusal::NoSuchMove);
     }
-    let reached = marks_in(header, kinds, firsts, seconds, flags, 4, 256);
-    let at = moving.0 as usize;
-    if reached[at * 256 + choice.0 as usize] == 1 {
-        return Looked {
+    let reached = marks_in(learnt, Kind::Does, 256);
+    let at = usize::from(moving.0) * 256 + usize::from(choice.0);
+    Ok(u8::from(reached[at] != 1))
+}
+
+// "hidden 15 (asking seat, then moving seat), 16".
+pub fn hidden_fit(learnt: &Learnt, asking: Seat, moving: Seat, choice: Move) -> Looked
+    requires { Traced (found learnt.now) asking.0 }
+    ensures { (G : Game) → Accepted G → found learnt.now ≡ found_in G (reach_of G asking.0) → result ≡ hidden_from (fit G) asking.0 moving.0 choice.0 }
+{
+    match looked(learnt, asking, moving, choice) {
+        Ok(hidden) => Looked {
             refusal: Refusal::Success,
-            hidden: 0,
-        };
-    }
-    Looked {
-        refusal: Refusal::Success,
-        hidden: 1,
+            hidden,
+        },
+        Err(refusal) => Looked { refusal, hidden: 0 },
     }
 }

@@ -8,63 +8,53 @@ ghost use Rattle.rules.specs.Verdict.{fit};
 ghost use Rattle.verdict.specs.Consulted.{found, found_in};
 ghost use Rattle.calls.specs.Calls.{offer};
 ghost use Rattle.answers.specs.Asked.{Asked};
+ghost use Rattle.answers.specs.Outcome.{moved_from};
 
-use crate::positions::{kept, limits_of};
+use crate::positions::{limits_of, moved_from};
 use calls::Moved;
+use gdl::kinds::Kind;
 use gdl::{Move, Seat};
 use refusals::Refusal;
 use session::Session;
 use session::shape::shaped;
-use table::header::Header;
-use verdict::marks_in;
+use verdict::{Learnt, marks_in};
 
-// "offer 19, 15, 16, 17, 18", after 21.
-pub fn offer_fit(
-    header: Header,
-    kinds: &[u16; 1024],
-    firsts: &[u16; 1024],
-    seconds: &[u16; 1024],
-    flags: &[u8; 1024],
-    session: Session,
-    seat: Seat,
-    choice: Move,
-) -> Moved
-    requires { Asked (found header kinds.now firsts.now seconds.now flags.now) session.position (blank 8) }
-    ensures { (G : Game) → Accepted G → found header kinds.now firsts.now seconds.now flags.now ≡ found_in G (model G session.position (blank 8)) → result ≡ offer (fit G) session seat.0 choice.0 }
+// The record with the choice stored.
+fn offered(learnt: &Learnt, session: Session, seat: Seat, choice: Move) -> Result<Session, Refusal>
+    requires { Asked (found learnt.now) session.position (blank 8) }
+    ensures { (G : Game) → Accepted G → found learnt.now ≡ found_in G (model G session.position (blank 8)) → moved_from session result ≡ offer (fit G) session seat.0 choice.0 }
 {
-    let limits = limits_of(header);
+    let limits = limits_of(learnt.header);
     if !shaped(session, limits) {
-        return kept(Refusal::BadShape, session);
+        return Err(Refusal::BadShape);
     }
-    let ends = marks_in(header, kinds, firsts, seconds, flags, 8, 1);
+    let ends = marks_in(learnt, Kind::Terminal, 1);
     if ends[0] == 1 {
-        return kept(Refusal::GameOver, session);
+        return Err(Refusal::GameOver);
     }
     if limits.seats <= seat.0 {
-        return kept(Refusal::NoSuchSeat, session);
+        return Err(Refusal::NoSuchSeat);
     }
     if limits.moves <= choice.0 {
-        return kept(Refusal::NoSuchMove, session);
+        return Err(Refusal::NoSuchMove);
     }
-    let at = seat.0 as usize;
+    let at = usize::from(seat.0);
     let mut choices = session.choices;
     if choices[at] != 0 {
-        return kept(Refusal::AlreadyChosen, session);
+        return Err(Refusal::AlreadyChosen);
     }
-    let legal = marks_in(header, kinds, firsts, seconds, flags, 5, 256);
-    if legal[at * 256 + choice.0 as usize] != 1 {
-        return kept(Refusal::NotLegal(0), session);
+    let legal = marks_in(learnt, Kind::Legal, 256);
+    if legal[at * 256 + usize::from(choice.0)] != 1 {
+        return Err(Refusal::NotLegal(0));
     }
     choices[at] = choice.0 + 1;
-    let position = session.position;
-    let percepts = session.percepts;
-    Moved {
-        refusal: Refusal::Success,
-        session: Session {
-            position,
-            choices,
-            percepts,
-            round: session.round,
-        },
-    }
+    Ok(Session { choices, ..session })
+}
+
+// "offer 19, 15, 16, 17, 18", after 21.
+pub fn offer_fit(learnt: &Learnt, session: Session, seat: Seat, choice: Move) -> Moved
+    requires { Asked (found learnt.now) session.position (blank 8) }
+    ensures { (G : Game) → Accepted G → found learnt.now ≡ found_in G (model G session.position (blank 8)) → result ≡ offer (fit G) session seat.0 choice.0 }
+{
+    moved_from(session, offered(learnt, session, seat, choice))
 }

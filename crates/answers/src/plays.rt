@@ -7,89 +7,76 @@ ghost use Rattle.rules.specs.Verdict.{fit};
 ghost use Rattle.verdict.specs.Consulted.{found, found_in};
 ghost use Rattle.calls.specs.Calls.{play};
 ghost use Rattle.answers.specs.Asked.{Asked};
-ghost use Rattle.answers.specs.Lowest.{LowestOr, Chosen, lacks, wrongs};
+ghost use Rattle.answers.specs.Lowest.{IsLowest, Chosen, lacks, wrongs};
+ghost use Rattle.answers.specs.Outcome.{moved_from};
 
-use crate::positions::{first_marks, kept, limits_of, no_choices};
+use crate::positions::{first_marks, limits_of, moved_from};
 use calls::Moved;
+use gdl::kinds::Kind;
 use refusals::Refusal;
 use session::Session;
 use session::shape::shaped;
-use table::header::Header;
-use verdict::marks_in;
+use verdict::{Learnt, marks_in};
 
-// The lowest seat without a choice, or the number of seats.
-fn first_unchosen(choices: [u16; 8], seats: u16) -> u16
+// The lowest seat without a choice.
+fn first_unchosen(choices: [u16; 8], seats: u16) -> Option<usize>
     requires { seats ≤ 8 }
-    ensures { LowestOr (lacks choices) seats result }
+    ensures { IsLowest (lacks choices) seats result }
 {
-    let mut s: u16 = 0;
-    while s < seats {
-        if choices[s as usize] == 0 {
-            return s;
-        }
-        s += 1;
-    }
-    s
+    choices[0..usize::from(seats)].iter().position(|choice| *choice == 0)
 }
 
-// The lowest seat whose choice is not legal, or the number of seats.
-fn first_illegal(choices: [u16; 8], legal: &[u8; 2048], seats: u16) -> u16
+// The lowest seat whose choice is not legal.
+fn first_illegal(choices: [u16; 8], legal: &[u8; 2048], seats: u16) -> Option<usize>
     requires { Chosen choices seats }
-    ensures { LowestOr (wrongs choices legal.now) seats result }
+    ensures { IsLowest (wrongs choices legal.now) seats result }
 {
-    let mut s: u16 = 0;
-    while s < seats {
-        let chosen = choices[s as usize] - 1;
-        if legal[s as usize * 256 + chosen as usize] != 1 {
-            return s;
+    for s in 0..usize::from(seats) {
+        let chosen = usize::from(choices[s] - 1);
+        if legal[s * 256 + chosen] != 1 {
+            return Some(s);
         }
-        s += 1;
     }
-    s
+    None
 }
 
-// "play 19, 20, 18, 22", after 21. What was found is true with the joint choice; by rule 10 that changes neither the end nor what is legal.
-pub fn play_fit(
-    header: Header,
-    kinds: &[u16; 1024],
-    firsts: &[u16; 1024],
-    seconds: &[u16; 1024],
-    flags: &[u8; 1024],
-    session: Session,
-) -> Moved
-    requires { Asked (found header kinds.now firsts.now seconds.now flags.now) session.position session.choices }
-    ensures { (G : Game) → Accepted G → found header kinds.now firsts.now seconds.now flags.now ≡ found_in G (model G session.position session.choices) → result ≡ play (fit G) session }
+// The next record. What was found is true with the joint choice; by rule 10 that changes neither the end nor what is legal.
+fn played(learnt: &Learnt, session: Session) -> Result<Session, Refusal>
+    requires { Asked (found learnt.now) session.position session.choices }
+    ensures { (G : Game) → Accepted G → found learnt.now ≡ found_in G (model G session.position session.choices) → moved_from session result ≡ play (fit G) session }
 {
-    let limits = limits_of(header);
+    let limits = limits_of(learnt.header);
     if !shaped(session, limits) {
-        return kept(Refusal::BadShape, session);
+        return Err(Refusal::BadShape);
     }
-    let ends = marks_in(header, kinds, firsts, seconds, flags, 8, 1);
+    let ends = marks_in(learnt, Kind::Terminal, 1);
     if ends[0] == 1 {
-        return kept(Refusal::GameOver, session);
+        return Err(Refusal::GameOver);
     }
     let choices = session.choices;
-    let lacking = first_unchosen(choices, limits.seats);
-    if lacking < limits.seats {
-        return kept(Refusal::NoChoice(lacking as usize), session);
+    if let Some(seat) = first_unchosen(choices, limits.seats) {
+        return Err(Refusal::NoChoice(seat));
     }
-    let legal = marks_in(header, kinds, firsts, seconds, flags, 5, 256);
-    let wrong = first_illegal(choices, &legal, limits.seats);
-    if wrong < limits.seats {
-        return kept(Refusal::NotLegal(wrong as usize), session);
+    let legal = marks_in(learnt, Kind::Legal, 256);
+    if let Some(seat) = first_illegal(choices, &legal, limits.seats) {
+        return Err(Refusal::NotLegal(seat));
     }
     if session.round == 65535 {
-        return kept(Refusal::LastRound, session);
+        return Err(Refusal::LastRound);
     }
-    let nexts = marks_in(header, kinds, firsts, seconds, flags, 6, 1);
-    let next = Session {
+    let nexts = marks_in(learnt, Kind::Next, 1);
+    Ok(Session {
         position: first_marks(&nexts),
-        choices: no_choices(),
-        percepts: marks_in(header, kinds, firsts, seconds, flags, 7, 256),
+        choices: [0; 8],
+        percepts: marks_in(learnt, Kind::Sees, 256),
         round: session.round + 1,
-    };
-    Moved {
-        refusal: Refusal::Success,
-        session: next,
-    }
+    })
+}
+
+// "play 19, 20, 18, 22", after 21.
+pub fn play_fit(learnt: &Learnt, session: Session) -> Moved
+    requires { Asked (found learnt.now) session.position session.choices }
+    ensures { (G : Game) → Accepted G → found learnt.now ≡ found_in G (model G session.position session.choices) → result ≡ play (fit G) session }
+{
+    moved_from(session, played(learnt, session))
 }

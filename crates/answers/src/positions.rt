@@ -1,33 +1,14 @@
-// Limits, blank rooms, positions from marks, and a record handed back as it came.
-ghost use Rattle.std.specs.Prelude.{◌≡◌, length, take};
-ghost use Rattle.gdl.specs.Flags.{blank};
+// Limits, positions from marks, and a record moved on or handed back as it came.
+ghost use Rattle.std.specs.Prelude.{◌≡◌, take};
+ghost use Rattle.answers.specs.Outcome.{moved_from};
 
 use calls::Moved;
-use numbers::copying::copy;
 use refusals::Refusal;
 use session::Session;
 use session::shape::Limits;
 use table::header::Header;
 
-pub fn no_fluents() -> [u8; 512]
-    ensures { result ≡ blank 512 }
-{
-    [0; 512]
-}
-
-pub fn no_choices() -> [u16; 8]
-    ensures { result ≡ blank 8 }
-{
-    [0; 8]
-}
-
-pub fn no_percepts() -> [u8; 2048]
-    ensures { result ≡ blank 2048 }
-{
-    [0; 2048]
-}
-
-// How much of each thing a table has.
+// How much of each thing a table has. No `From`: neither Limits nor Header is of this crate.
 pub fn limits_of(header: Header) -> Limits
     ensures { result ≡ record { seats = header.players.seats; fluents = header.sizes.fluents; moves = header.sizes.moves; percepts = header.sizes.percepts } }
 {
@@ -40,18 +21,23 @@ pub fn limits_of(header: Header) -> Limits
 }
 
 // The marks of the fluents: a position.
-pub fn first_marks(marks: &[u8]) -> [u8; 512]
-    requires { length marks.now ≡ 2048 }
+pub fn first_marks(marks: &[u8; 2048]) -> [u8; 512]
     ensures { result ≡ take 512 marks.now }
 {
-    let mut position = no_fluents();
-    copy(&marks[0..512], &mut position, 0);
+    let mut position = [0; 512];
+    position.copy_from_slice(&marks[0..512]);
     position
 }
 
-// A refusal, and the session as it came.
-pub fn kept(refusal: Refusal, session: Session) -> Moved
-    ensures { result ≡ record { refusal = refusal; session = session } }
+// The session that a call goes on with; or a refusal, and the session as it came.
+pub fn moved_from(session: Session, outcome: Result<Session, Refusal>) -> Moved
+    ensures { result ≡ moved_from session outcome }
 {
-    Moved { refusal, session }
+    match outcome {
+        Ok(session) => Moved {
+            refusal: Refusal::Success,
+            session,
+        },
+        Err(refusal) => Moved { refusal, session },
+    }
 }

@@ -1,6 +1,6 @@
 -- What a reading of the table gives depends on what is left of the input alone: two readings that go well, with the same bytes left, give the
 -- same and leave the same.
-use Rattle.std.specs.Prelude.{if◌then◌else◌}
+use Rattle.std.specs.Prelude.{if◌then◌else◌, Err}
 use mathlib.Core.Path.{◌≡◌, refl, sym, ap, subst, ◌∙◌}
 use mathlib.Core.Bool.{Bool, true, false}
 use mathlib.Core.List.{List}
@@ -11,8 +11,8 @@ use lib.Dec.{ltb, leb, eqb}
 use lib.ListN.{length, get_or, drop, length-drop}
 use lib.Seq.{get_or-drop, drop-drop}
 use borrow.Author.Tests.{le-leb, lt-leb}
-use Rattle.numbers.specs.Number.{bits, run_at, number_of_two, number_of_three, number_of, number_at}
-use Rattle.numbers.specs.declared.Number.TheVariants.{Read, Long, Large}
+use Rattle.numbers.specs.Number.{bits, read, run_at, number_of_two, number_of_three, number_of, number_at}
+use Rattle.numbers.specs.declared.Fault.TheVariants.{Long, Large}
 use Rattle.numbers.specs.declared.Run.{Run}
 use Rattle.numbers.specs.declared.Run.TheVariants.{Cut, One, Two, Three}
 use Rattle.numbers.proofs.Reading.{one_within, two_within, three_within}
@@ -87,7 +87,7 @@ module _ (s t : List ℕ) where
     }
 
   module _ (lo end n m : ℕ) where
-    read_alike : (v i j : ℕ) → Left s t i j → Alike (in_range lo end n (Read v i)) (in_range lo end m (Read v j))
+    read_alike : (v i j : ℕ) → Left s t i j → Alike (in_range lo end n (read v i)) (in_range lo end m (read v j))
     read_alike v i j w = go (ltb v lo) (leb end v)
       where
         go : (a b : Bool) → Alike (if a then fault (OutOfRange n) else if b then fault (OutOfRange n) else ok v i) (if a then fault (OutOfRange m) else if b then fault (OutOfRange m) else ok v j)
@@ -99,7 +99,7 @@ module _ (s t : List ℕ) where
     unfolding number_of_two
     two_alike a b i j w = go (eqb b 0)
       where
-        go : (x : Bool) → Alike (in_range lo end n (if x then Long else Read (bits a + 128 * bits b) i)) (in_range lo end m (if x then Long else Read (bits a + 128 * bits b) j))
+        go : (x : Bool) → Alike (in_range lo end n (if x then Err Long else read (bits a + 128 * bits b) i)) (in_range lo end m (if x then Err Long else read (bits a + 128 * bits b) j))
         go true = tt
         go false = read_alike (bits a + 128 * bits b) i j w
 
@@ -110,7 +110,7 @@ module _ (s t : List ℕ) where
         v : ℕ
         v = bits a + 128 * bits b + 16384 * bits c
 
-        go : (x y z : Bool) → Alike (in_range lo end n (if x then Long else if y then Large else if z then Large else Read v i)) (in_range lo end m (if x then Long else if y then Large else if z then Large else Read v j))
+        go : (x y z : Bool) → Alike (in_range lo end n (if x then Err Long else if y then Err Large else if z then Err Large else read v i)) (in_range lo end m (if x then Err Long else if y then Err Large else if z then Err Large else read v j))
         go true y z = tt
         go false true z = tt
         go false false true = tt

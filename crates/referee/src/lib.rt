@@ -11,33 +11,34 @@ use answers::looks::hidden_fit;
 use answers::moves::offer_fit;
 use answers::opens::open_fit;
 use answers::plays::play_fit;
-use answers::positions::{no_choices, no_fluents};
 use answers::tells::{message_fit, model_fit};
 use calls::{Claimed, Looked, Moved, Sent};
 use gdl::{Move, Seat};
 use refusals::Refusal;
 use session::Session;
 use session::bytes::blank_session;
-use table::tables::no_atoms;
-use verdict::{Learnt, consult, no_flags, trace};
+use verdict::{consult, examine, trace};
 
 // "check": the verdict on a table.
 pub fn check(table: &[u8]) -> Refusal
     ensures { CheckPromise table.now result }
 {
-    let found = verdict::examine(table);
-    found.refusal
+    match examine(table) {
+        Err(refusal) => refusal,
+        Ok(_) => Refusal::Success,
+    }
 }
 
 // "The claim is handed out on request." Nothing else depends on it.
 pub fn claim(table: &[u8]) -> Claimed
     ensures { result ≡ claim (judge table.now) }
 {
-    let found = verdict::examine(table);
-    let refusal = found.refusal;
-    Claimed {
-        refusal,
-        claim: found.header.players.claim,
+    match examine(table) {
+        Err(refusal) => Claimed { refusal, claim: 0 },
+        Ok(header) => Claimed {
+            refusal: Refusal::Success,
+            claim: header.players.claim,
+        },
     }
 }
 
@@ -45,26 +46,12 @@ pub fn claim(table: &[u8]) -> Claimed
 pub fn open_game(table: &[u8]) -> Moved
     ensures { result ≡ open_game (judge table.now) }
 {
-    let position = no_fluents();
-    let choices = no_choices();
-    let mut kinds = no_atoms();
-    let mut firsts = no_atoms();
-    let mut seconds = no_atoms();
-    let mut flags = no_flags();
-    match consult(
-        table,
-        &position,
-        &choices,
-        &mut kinds,
-        &mut firsts,
-        &mut seconds,
-        &mut flags,
-    ) {
-        Learnt::Refused(refusal) => Moved {
+    match consult(table, &[0; 512], &[0; 8]) {
+        Err(refusal) => Moved {
             refusal,
             session: blank_session(),
         },
-        Learnt::Accepted(header) => open_fit(header, &kinds, &firsts, &seconds, &flags),
+        Ok(learnt) => open_fit(&learnt),
     }
 }
 
@@ -72,25 +59,9 @@ pub fn open_game(table: &[u8]) -> Moved
 pub fn offer(table: &[u8], session: Session, seat: Seat, choice: Move) -> Moved
     ensures { result ≡ offer (judge table.now) session seat.0 choice.0 }
 {
-    let position = session.position;
-    let choices = no_choices();
-    let mut kinds = no_atoms();
-    let mut firsts = no_atoms();
-    let mut seconds = no_atoms();
-    let mut flags = no_flags();
-    match consult(
-        table,
-        &position,
-        &choices,
-        &mut kinds,
-        &mut firsts,
-        &mut seconds,
-        &mut flags,
-    ) {
-        Learnt::Refused(refusal) => Moved { refusal, session },
-        Learnt::Accepted(header) => offer_fit(
-            header, &kinds, &firsts, &seconds, &flags, session, seat, choice,
-        ),
+    match consult(table, &session.position, &[0; 8]) {
+        Err(refusal) => Moved { refusal, session },
+        Ok(learnt) => offer_fit(&learnt, session, seat, choice),
     }
 }
 
@@ -98,22 +69,9 @@ pub fn offer(table: &[u8], session: Session, seat: Seat, choice: Move) -> Moved
 pub fn hidden(table: &[u8], asking: Seat, moving: Seat, choice: Move) -> Looked
     ensures { HiddenPromise (judge table.now) asking.0 moving.0 choice.0 result }
 {
-    let mut kinds = no_atoms();
-    let mut firsts = no_atoms();
-    let mut seconds = no_atoms();
-    let mut flags = no_flags();
-    match trace(
-        table,
-        asking.0,
-        &mut kinds,
-        &mut firsts,
-        &mut seconds,
-        &mut flags,
-    ) {
-        Learnt::Refused(refusal) => Looked { refusal, hidden: 0 },
-        Learnt::Accepted(header) => hidden_fit(
-            header, &kinds, &firsts, &seconds, &flags, asking, moving, choice,
-        ),
+    match trace(table, asking.0) {
+        Err(refusal) => Looked { refusal, hidden: 0 },
+        Ok(learnt) => hidden_fit(&learnt, asking, moving, choice),
     }
 }
 
@@ -121,23 +79,9 @@ pub fn hidden(table: &[u8], asking: Seat, moving: Seat, choice: Move) -> Looked
 pub fn model(table: &[u8], position: [u8; 512], choices: [u16; 8], room: &mut [u8]) -> Refusal
     ensures { ModelPromise (judge table.now) position choices room.old (result, room.new) }
 {
-    let mut kinds = no_atoms();
-    let mut firsts = no_atoms();
-    let mut seconds = no_atoms();
-    let mut flags = no_flags();
-    match consult(
-        table,
-        &position,
-        &choices,
-        &mut kinds,
-        &mut firsts,
-        &mut seconds,
-        &mut flags,
-    ) {
-        Learnt::Refused(refusal) => refusal,
-        Learnt::Accepted(header) => model_fit(
-            header, &kinds, &firsts, &seconds, &flags, position, choices, room,
-        ),
+    match consult(table, &position, &choices) {
+        Err(refusal) => refusal,
+        Ok(learnt) => model_fit(&learnt, position, choices, room),
     }
 }
 
@@ -145,23 +89,9 @@ pub fn model(table: &[u8], position: [u8; 512], choices: [u16; 8], room: &mut [u
 pub fn play(table: &[u8], session: Session) -> Moved
     ensures { result ≡ play (judge table.now) session }
 {
-    let position = session.position;
-    let choices = session.choices;
-    let mut kinds = no_atoms();
-    let mut firsts = no_atoms();
-    let mut seconds = no_atoms();
-    let mut flags = no_flags();
-    match consult(
-        table,
-        &position,
-        &choices,
-        &mut kinds,
-        &mut firsts,
-        &mut seconds,
-        &mut flags,
-    ) {
-        Learnt::Refused(refusal) => Moved { refusal, session },
-        Learnt::Accepted(header) => play_fit(header, &kinds, &firsts, &seconds, &flags, session),
+    match consult(table, &session.position, &session.choices) {
+        Err(refusal) => Moved { refusal, session },
+        Ok(learnt) => play_fit(&learnt, session),
     }
 }
 
@@ -169,24 +99,8 @@ pub fn play(table: &[u8], session: Session) -> Moved
 pub fn message(table: &[u8], session: Session, seat: Seat, room: &mut [u8]) -> Sent
     ensures { (result, room.new) ≡ message (judge table.now) session seat.0 room.old }
 {
-    let position = session.position;
-    let choices = no_choices();
-    let mut kinds = no_atoms();
-    let mut firsts = no_atoms();
-    let mut seconds = no_atoms();
-    let mut flags = no_flags();
-    match consult(
-        table,
-        &position,
-        &choices,
-        &mut kinds,
-        &mut firsts,
-        &mut seconds,
-        &mut flags,
-    ) {
-        Learnt::Refused(refusal) => Sent { refusal, length: 0 },
-        Learnt::Accepted(header) => message_fit(
-            header, &kinds, &firsts, &seconds, &flags, session, seat, room,
-        ),
+    match consult(table, &session.position, &[0; 8]) {
+        Err(refusal) => Sent { refusal, length: 0 },
+        Ok(learnt) => message_fit(&learnt, session, seat, room),
     }
 }

@@ -1,11 +1,6 @@
 -- The search walks up the seats; those passed do not strike.
-use Prim.Native.Nat.{◌-◌}
-use Rattle.answers.specs.Lowest.{wrongs}
-use Rattle.answers.proofs.Playing.{Searched}
+use Rattle.answers.specs.Lowest.{NoneBelow, wrongs}
 use Rattle.answers.proofs.plays.first_illegal.Given as goal
 
 abbrev pub invariant-loop-s : goal.invariant-loop-s
-invariant-loop-s l = Searched (wrongs l.choices l.legal) l.seats l.s
-
-abbrev pub decreases-loop-s : goal.decreases-loop-s
-decreases-loop-s l = l.seats - l.s
+invariant-loop-s l = NoneBelow (wrongs l.choices l.legal) l.s
