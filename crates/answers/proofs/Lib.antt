@@ -1,4 +1,3 @@
-pub mod Copying
 pub mod Writing
 pub mod Reading
 pub mod Asking

@@ -17,7 +17,7 @@ use Rattle.session.specs.declared.shape.Limits.{Limits}
 use Rattle.verdict.specs.Consulted.{Consulted, found_in, Fit}
 use Rattle.answers.specs.Asked.{Traced}
 use Rattle.calls.specs.Calls.{hidden_from}
-use Rattle.calls.proofs.Returns.{hidden_done}
+use Rattle.calls.proofs.Returns.{hidden_done, hidden_no_asking, hidden_no_moving, hidden_no_move}
 use Rattle.answers.proofs.Reading.{wide_mark}
 use Rattle.answers.proofs.Offering.{Headed, MarksIn}
 
@@ -66,3 +66,5 @@ module _ (c : Consulted) (l : Limits) (h : Headed c l) (G : Game) (ok : Accepted
 
 pub traced_fit : {c : Consulted} {z : ℕ} → Traced c z → Fit c
 traced_fit {c} {z} a = record { game = a.game; flags = reach_of a.game z; is = a.is; few = a.accepted.limits.atoms }
+
+pub ruleset outcomes = (hidden_no_asking, hidden_no_moving, hidden_no_move, seat_out, seat_in, move_out)
