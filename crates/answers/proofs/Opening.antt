@@ -25,7 +25,7 @@ use Rattle.calls.specs.Position.{atom_in, still, opened}
 use Rattle.calls.specs.Calls.{open_game}
 use Rattle.calls.proofs.Returns.{open_fit}
 use Rattle.answers.proofs.Reading.{thin_at, fits, only_fitting}
-use Rattle.answers.proofs.Offering.{MarksIn}
+use Rattle.answers.proofs.Asking.{MarksIn}
 
 module _ (G : Game) (ok : Accepted G) (X : Atoms) (k : ℕ) (thin : second_end G k ≤ 1) (of-fluents : first_end G k ≡ G.fluents) where
   -- the fluents of the atoms of the kind that are in
@@ -45,11 +45,11 @@ module _ (G : Game) (ok : Accepted G) (X : Atoms) (k : ℕ) (thin : second_end G
       at : (j : ℕ) → any_of (is_at k 1 j) G.atoms X ≡ (fluent_fits G j && atom_in G X k j 0)
       at j = thin_at G ok.limits X k thin j ∙ only_fitting G ok.limits X k (fluent_fits G j) (atom_in G X k j 0) (λ t. lt→ltb j G.fluents (omega (arith, (fits G ok.limits X k j 0 t).0, of-fluents)))
 
-pub open_answered : (G : Game) → Accepted G → (c : Consulted) → c ≡ found_in G (model G [] []) → (marks position choices percepts : List ℕ)
+pub open_answered : (G : Game) → Accepted G → {c : Consulted} → c ≡ found_in G (model G [] []) → {marks position choices percepts : List ℕ}
     → MarksIn c 2 1 marks → position ≡ take 512 marks → choices ≡ blank 8 → percepts ≡ blank 2048
     → ◌≡◌ {A = Moved} (record { refusal = Success; session = record { position = position; choices = choices; percepts = percepts; round = 0 } }) (open_game (fit G))
 unfolding opened still
-open_answered G ok c e marks position choices percepts em ep ec es =
+open_answered G ok e {marks} {position} em ep ec es =
     let X : List ℕ = model G [] [] in
     let p : position ≡ flags 512 (λ f. fluent_fits G f && atom_in G (on (still G [])) init_kind f 0) =
     ep ∙ (position_is G ok (on X) 2 (omega arith) refl marks (em G X e ok.limits.atoms)) in

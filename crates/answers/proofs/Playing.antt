@@ -25,10 +25,9 @@ use Rattle.truth.specs.Marks.{is_at, marks_of}
 use Rattle.verdict.specs.Consulted.{Consulted, found_in}
 use Rattle.calls.specs.Position.{atom_in, moved, played}
 use Rattle.calls.specs.Calls.{unchosen, illegal}
-use Rattle.answers.specs.Lowest.{LowestOr, Chosen, lacks, wrongs}
+use Rattle.answers.specs.Lowest.{NoneBelow, Lowest, Chosen, lacks, wrongs}
 use Rattle.answers.proofs.Reading.{wide_at, fits, only_fitting}
-use Rattle.answers.proofs.Asking.{limits_are, legal_mark}
-use Rattle.answers.proofs.Offering.{Headed, MarksIn}
+use Rattle.answers.proofs.Asking.{MarksIn, Consults, seats_are, seats_few, legal_mark}
 use Rattle.answers.proofs.Opening.{position_is}
 
 -- ---- percepts
@@ -45,61 +44,36 @@ percepts_are G ok X marks e =
 -- ---- the lowest seat
 
 module _ (f : ℕ → Bool) where
-  none_from : (i n : ℕ) → ((q : ℕ) → q < i + n → f q ≡ false) → lowest f i n ≡ nowhere
+  none_from : (i n : ℕ) → NoneBelow f (i + n) → lowest f i n ≡ nowhere
   none_from i zero h = refl
   none_from i (suc n) h = rw (h i (omega arith)) (none_from (suc i) n (λ q lt. h q (omega arith)))
 
-  found_from : (i n p : ℕ) → i ≤ p → p < i + n → ((q : ℕ) → q < p → f q ≡ false) → f p ≡ true → lowest f i n ≡ found p
+  found_from : (i n p : ℕ) → i ≤ p → p < i + n → NoneBelow f p → f p ≡ true → lowest f i n ≡ found p
   found_from i zero p a b h e = absurd (omega arith)
   found_from i (suc n) p a b h e =
       elim (ℕ_discrete p i) [ yes s ↦ rw (subst (λ (x : ℕ). f x ≡ true) s e) (ap found (sym s)) | no ne ↦ rw (h i (omega arith)) (found_from (suc i) n p (omega arith) (omega arith) h e) ]
 
-  pub lowest_none : (n r : ℕ) → LowestOr f n r → n ≤ r → lowest f 0 n ≡ nowhere
-  lowest_none n r l h = none_from 0 n (λ q lt. l.none q (omega arith))
+  pub lowest_none : (n : ℕ) → NoneBelow f n → lowest f 0 n ≡ nowhere
+  lowest_none n h = none_from 0 n (λ q lt. h q (omega arith))
 
-  pub lowest_found : (n r : ℕ) → LowestOr f n r → r < n → lowest f 0 n ≡ found r
-  lowest_found n r l h = found_from 0 n r (omega arith) (omega arith) l.none (l.passes h)
-
--- the first k of n do not pass
-pub record Searched (f : ℕ → Bool) (n k : ℕ) : Type 0 where
-  pub within : k ≤ n
-  pub none : (q : ℕ) → q < k → f q ≡ false
-
-module _ (f : ℕ → Bool) (n : ℕ) where
-  pub search_starts : Searched f n 0
-  search_starts = record { within = omega arith; none = λ q lt. absurd (omega arith) }
-
-  pub search_ends : (k : ℕ) → Searched f n k → n ≤ k → LowestOr f n k
-  search_ends k s h = record { within = s.within; passes = λ lt. absurd (omega arith); none = s.none }
-
-  module _ (k : ℕ) (s : Searched f n k) (lt : k < n) where
-    pub search_goes_on : f k ≡ false → Searched f n (k + 1)
-    search_goes_on e = record {
-      within = omega arith;
-      none = λ q l. elim (ℕ_discrete q k) [ yes d ↦ subst (λ (x : ℕ). f x ≡ false) (sym d) e | no ne ↦ s.none q (omega arith) ];
-    }
-
-    pub search_stops : f k ≡ true → LowestOr f n k
-    search_stops e = record { within = s.within; passes = λ l. e; none = s.none }
+  pub lowest_found : (n r : ℕ) → Lowest f n r → lowest f 0 n ≡ found r
+  lowest_found n r h = found_from 0 n r (omega arith) (omega (arith, h.within)) h.none h.passes
 
 -- ---- the tests of play, from what was read
 
-module _ (σ : Session) (c : Consulted) (l : Limits) (h : Headed c l) (G : Game) (ok : Accepted G) (ch : List ℕ) (e : c ≡ found_in G (model G σ.position ch)) where
-  seats_here : l.seats ≡ G.seats
-  seats_here = ap (λ (x : Limits). x.seats) (limits_are G ok c σ.position ch e l h)
+module _ (σ : Session) {c : Consulted} {l : Limits} {G : Game} {ch : List ℕ} (w : Consults c l G σ.position ch) where
+  here : (f : ℕ → Bool) → lowest f 0 l.seats ≡ lowest f 0 G.seats
+  here f = ap (λ (n : ℕ). lowest f 0 n) (seats_are w.met)
 
-  pub seats_few : l.seats ≤ 8
-  seats_few = omega (arith, seats_here, ok.limits.seats)
+  pub one_lacks : {r : ℕ} → Lowest (lacks σ.choices) l.seats r → lowest (unchosen σ) 0 G.seats ≡ found r
+  one_lacks {r} h = sym (here (unchosen σ)) ∙ lowest_found (unchosen σ) l.seats r h
 
-  module _ (r : ℕ) (low : LowestOr (lacks σ.choices) l.seats r) where
-    pub one_lacks : r < l.seats → lowest (unchosen σ) 0 G.seats ≡ found r
-    one_lacks lt = ap (λ (n : ℕ). lowest (unchosen σ) 0 n) (sym seats_here) ∙ lowest_found (unchosen σ) l.seats r low lt
+  module _ (none : NoneBelow (lacks σ.choices) l.seats) where
+    pub none_lacks : lowest (unchosen σ) 0 G.seats ≡ nowhere
+    none_lacks = sym (here (unchosen σ)) ∙ lowest_none (unchosen σ) l.seats none
 
-    pub none_lacks : l.seats ≤ r → lowest (unchosen σ) 0 G.seats ≡ nowhere
-    none_lacks le = ap (λ (n : ℕ). lowest (unchosen σ) 0 n) (sym seats_here) ∙ lowest_none (unchosen σ) l.seats r low le
-
-    pub all_chose : shaped G σ ≡ true → l.seats ≤ r → Chosen σ.choices l.seats
-    all_chose t le = record { few = seats_few; some = λ s lt. some s (low.none s (omega arith)); within = λ s lt. within s (get_or σ.choices s 0) refl }
+    pub all_chose : shaped G σ ≡ true → Chosen σ.choices l.seats
+    all_chose t = record { few = seats_few w.met; some = λ s lt. some s (none s lt); within = λ s lt. within s (get_or σ.choices s 0) refl }
       where
         some : (s : ℕ) → eqb (get_or σ.choices s 0) 0 ≡ false → 1 ≤ get_or σ.choices s 0
         some s n = go (get_or σ.choices s 0) n
@@ -110,31 +84,29 @@ module _ (σ : Session) (c : Consulted) (l : Limits) (h : Headed c l) (G : Game)
 
         within : (s x : ℕ) → get_or σ.choices s 0 ≡ x → get_or σ.choices s 0 ≤ 256
         within s zero q = omega (arith, q)
-        within s (suc m) q = omega (arith, q, ((choices_mean G σ.choices).0 (shaped_parts G σ (rw t tt)).choices).moves s m q, ok.limits.moves)
+        within s (suc m) q = omega (arith, q, ((choices_mean G σ.choices).0 (shaped_parts G σ (rw t tt)).choices).moves s m q, w.met.accepted.limits.moves)
 
-  module _ (legals : List ℕ) (el : MarksIn c 5 256 legals) (all : Chosen σ.choices l.seats) (r : ℕ) (low : LowestOr (wrongs σ.choices legals) l.seats r) where
+  module _ {legals : List ℕ} (el : MarksIn c 5 256 legals) (all : Chosen σ.choices l.seats) where
     same_test : (s : ℕ) → s < l.seats → wrongs σ.choices legals s ≡ illegal G σ s
-    same_test s lt = ap not (legal_mark G ok c σ.position ch e legals (el G (model G σ.position ch) e ok.limits.atoms) s (get_or σ.choices s 0 - 1) (omega (arith, all.within s lt, all.some s lt)) (omega (arith, all.few)))
+    same_test s lt = ap not (legal_mark w el s (get_or σ.choices s 0 - 1) (omega (arith, all.within s lt, all.some s lt)) (omega (arith, all.few)))
 
-    low_illegal : LowestOr (illegal G σ) l.seats r
-    low_illegal = record {
-      within = low.within;
-      passes = λ lt. sym (same_test r lt) ∙ low.passes lt;
-      none = λ q lt. sym (same_test q (omega (arith, low.within))) ∙ low.none q lt;
-    }
+    pub one_illegal : {r : ℕ} → Lowest (wrongs σ.choices legals) l.seats r → lowest (illegal G σ) 0 G.seats ≡ found r
+    one_illegal {r} h =
+        sym (here (illegal G σ)) ∙ lowest_found (illegal G σ) l.seats r (record {
+          within = h.within;
+          passes = sym (same_test r h.within) ∙ h.passes;
+          none = λ q lt. sym (same_test q (omega (arith, h.within))) ∙ h.none q lt;
+        })
 
-    pub one_illegal : r < l.seats → lowest (illegal G σ) 0 G.seats ≡ found r
-    one_illegal lt = ap (λ (n : ℕ). lowest (illegal G σ) 0 n) (sym seats_here) ∙ lowest_found (illegal G σ) l.seats r low_illegal lt
-
-    pub none_illegal : l.seats ≤ r → lowest (illegal G σ) 0 G.seats ≡ nowhere
-    none_illegal le = ap (λ (n : ℕ). lowest (illegal G σ) 0 n) (sym seats_here) ∙ lowest_none (illegal G σ) l.seats r low_illegal le
+    pub none_illegal : NoneBelow (wrongs σ.choices legals) l.seats → lowest (illegal G σ) 0 G.seats ≡ nowhere
+    none_illegal h = sym (here (illegal G σ)) ∙ lowest_none (illegal G σ) l.seats (λ q lt. sym (same_test q lt) ∙ h q lt)
 
 -- ---- the record after play
 
-pub record_is : (G : Game) → Accepted G → (σ : Session) (c : Consulted) → c ≡ found_in G (model G σ.position σ.choices) → (nexts position choices percepts : List ℕ) → MarksIn c 6 1 nexts → position ≡ take 512 nexts
+pub record_is : (G : Game) → Accepted G → (σ : Session) {c : Consulted} → c ≡ found_in G (model G σ.position σ.choices) → {nexts position choices percepts : List ℕ} → MarksIn c 6 1 nexts → position ≡ take 512 nexts
     → choices ≡ blank 8 → MarksIn c 7 256 percepts → ◌≡◌ {A = Session} (record { position = position; choices = choices; percepts = percepts; round = σ.round + 1 }) (played G σ)
 unfolding played moved
-record_is G ok σ c e nexts position choices percepts en ep ec es =
+record_is G ok σ e {nexts} {position} {choices} {percepts} en ep ec es =
     let X : List ℕ = model G σ.position σ.choices in
     let p : position ≡ flags 512 (λ f. fluent_fits G f && atom_in G (on X) next_kind f 0) = ep ∙ position_is G ok (on X) 6 (omega arith) refl nexts (en G X e ok.limits.atoms) in
     let s : percepts ≡ flags 2048 (λ i. percept_fits G i && atom_in G (on X) sees_kind (i / 256) (i % 256)) = percepts_are G ok (on X) percepts (es G X e ok.limits.atoms) in

@@ -4,7 +4,7 @@ use mathlib.Core.Bool.{Bool, true, false, not, cond}
 use mathlib.Core.List.{List, [], ◌∷◌, ◌++◌, append_assoc}
 use Prim.Native.Nat.{ℕ, ◌*◌, ◌≤◌, ◌<◌}
 use native.Mathlib.Omega.{arith}
-use lib.Dec.{eqb, leb}
+use lib.Dec.{eqb}
 use lib.ListN.{length, get_or}
 use borrow.Author.Tests.{le-ltb}
 use Rattle.refusals.specs.declared.Refusal.TheVariants.{Success}
@@ -12,9 +12,7 @@ use Rattle.numbers.specs.Writing.{written}
 use Rattle.gdl.specs.Game.{Game}
 use Rattle.gdl.specs.Flags.{bit, blank}
 use Rattle.gdl.specs.Lists.{those}
-use Rattle.gdl.specs.Computed.{model}
 use Rattle.gdl.proofs.Walks.{those_same}
-use Rattle.rules.specs.Accepted.{Accepted}
 use Rattle.rules.specs.Verdict.{fit}
 use Rattle.session.specs.Shape.{shaped, limits_of}
 use Rattle.session.specs.declared.Session.{Session}
@@ -22,46 +20,34 @@ use Rattle.session.specs.declared.shape.Limits.{Limits}
 use Rattle.session.proofs.Shapes.{shaped_parts}
 use Rattle.message.specs.Message.{from, message_of, Fits}
 use Rattle.message.specs.declared.Sheet.{Sheet}
-use Rattle.verdict.specs.Consulted.{Consulted, found_in}
+use Rattle.verdict.specs.Consulted.{Consulted}
 use Rattle.calls.specs.Position.{over, legal, goal}
 use Rattle.calls.specs.Message.{counted, percepts_of, legal_of, goals_of, message_numbers}
 use Rattle.calls.specs.Calls.{message}
 use Rattle.answers.proofs.Writing.{message_written}
-use Rattle.answers.proofs.Asking.{limits_are, over_mark, legal_mark, goal_mark}
-use Rattle.answers.proofs.Offering.{Headed, MarksIn, seat_few}
+use Rattle.answers.proofs.Asking.{MarksIn, Consults, limits_are, seats_few, moves_few, a_seat, over_mark, legal_mark, goal_mark}
 
-module _ (σ : Session) (c : Consulted) (l : Limits) (h : Headed c l) (G : Game) (ok : Accepted G) (e : c ≡ found_in G (model G σ.position (blank 8))) where
-  here : l ≡ limits_of G
-  here = limits_are G ok c σ.position (blank 8) e l h
-
+module _ (σ : Session) {c : Consulted} {l : Limits} {G : Game} (w : Consults c l G σ.position (blank 8)) where
   pub sheet_fits : (z : ℕ) (m : Sheet) → m.seat ≡ z → m.percepts ≡ l.percepts → m.moves ≡ l.moves → z < l.seats → Fits m
   sheet_fits z m es ep em lt = record {
-    seat = omega (arith, seat_few σ c l h G ok (blank 8) e z lt);
-    percepts = omega (arith, ap (λ (x : Limits). x.percepts) here, ok.limits.percepts);
-    moves = omega (arith, ap (λ (x : Limits). x.moves) here, ok.limits.moves);
+    seat = omega (arith, seats_few w.met);
+    percepts = omega (arith, ap (λ (x : Limits). x.percepts) (limits_are w.met), w.met.accepted.limits.percepts);
+    moves = omega (arith, moves_few w.met);
   }
 
-  module _ (z : ℕ) (lt : z < l.seats) (ends legals goals : List ℕ) (ee : MarksIn c 8 1 ends) (el : MarksIn c 5 256 legals) (eg : MarksIn c 9 256 goals) where
-    few : length G.atoms ≤ 1024
-    few = ok.limits.atoms
-
-    X : List ℕ
-    X = model G σ.position (blank 8)
-
-    sheet : Sheet
-    sheet = record { seat = z; round = σ.round; over = eqb (get_or ends 0 0) 1; percepts = l.percepts; moves = l.moves }
-
+  module _ {z : ℕ} (lt : z < l.seats) {ends legals goals : List ℕ} (ee : MarksIn c 8 1 ends) (el : MarksIn c 5 256 legals) (eg : MarksIn c 9 256 goals) where
     pub numbers_are : message_of (record { seat = z; round = σ.round; over = eqb (get_or ends 0 0) 1; percepts = l.percepts; moves = l.moves }) σ.percepts legals goals ≡ message_numbers G σ z
-    unfolding message_of message_numbers X
+    unfolding message_of message_numbers
     numbers_are =
-        let small : z < 8 = seat_few σ c l h G ok (blank 8) e z lt in
-        let end : eqb (get_or ends 0 0) 1 ≡ over G σ.position = over_mark G ok c σ.position (blank 8) e ends (ee G X e few) in
+        let here : l ≡ limits_of G = limits_are w.met in
+        let small : z < 8 = omega (arith, seats_few w.met) in
+        let end : eqb (get_or ends 0 0) 1 ≡ over G σ.position = over_mark w ee in
         let P : those l.percepts (from σ.percepts (z * 256)) ≡ percepts_of G σ z = ap (λ (x : Limits). those x.percepts (from σ.percepts (z * 256))) here in
         let L : those l.moves (from legals (z * 256)) ≡ legal_of G σ z =
         ap (λ (x : Limits). those x.moves (from legals (z * 256))) here ∙ those_same (from legals (z * 256)) (legal G σ.position z) G.moves
-        (λ k kl. legal_mark G ok c σ.position (blank 8) e legals (el G X e few) z k (omega (arith, ok.limits.moves)) small) in
+        (λ k kl. legal_mark w el z k (omega (arith, w.met.accepted.limits.moves)) small) in
         let W : those 101 (from goals (z * 256)) ≡ goals_of G σ z =
-        those_same (from goals (z * 256)) (goal G σ.position z) 101 (λ k kl. goal_mark G ok c σ.position (blank 8) e goals (eg G X e few) z k (omega arith) small) in
+        those_same (from goals (z * 256)) (goal G σ.position z) 101 (λ k kl. goal_mark w eg z k (omega arith) small) in
         ap (λ (b : Bool). ours b (those l.percepts (from σ.percepts (z * 256))) (those l.moves (from legals (z * 256))) (those 101 (from goals (z * 256)))) end
         ∙ ap (λ (x : List ℕ). ours (over G σ.position) x (those l.moves (from legals (z * 256))) (those 101 (from goals (z * 256)))) P
         ∙ ap (λ (x : List ℕ). ours (over G σ.position) (percepts_of G σ z) x (those 101 (from goals (z * 256)))) L
@@ -75,10 +61,11 @@ module _ (σ : Session) (c : Consulted) (l : Limits) (h : Headed c l) (G : Game)
         flip true p m w = ap (λ (x : List ℕ). z ∷ σ.round ∷ 1 ∷ x) (sym (append_assoc (counted p) (counted []) (counted w)))
         flip false p m w = ap (λ (x : List ℕ). z ∷ σ.round ∷ 0 ∷ x) (sym (append_assoc (counted p) (counted m) (counted [])))
 
-    pub message_sent : (room : List ℕ) (at : ℕ) (now : List ℕ) → shaped G σ ≡ true → leb G.seats z ≡ false → 1024 ≤ length room
+    pub message_sent : (room : List ℕ) (at : ℕ) (now : List ℕ) → shaped G σ ≡ true → 1024 ≤ length room
         → (at, now) ≡ written (message_of (record { seat = z; round = σ.round; over = eqb (get_or ends 0 0) 1; percepts = l.percepts; moves = l.moves }) σ.percepts legals goals) (0, room)
         → (record { refusal = Success; length = at }, now) ≡ message (fit G) σ z room
-    message_sent room at now a b long w = message_written G ok σ z room at now a b (le-ltb (length room) 1024 long) (w ∙ ap (λ (x : List ℕ). written x (0, room)) numbers_are)
+    message_sent room at now a long e =
+        message_written G w.met.accepted σ z room at now a (a_seat w.met z lt) (le-ltb (length room) 1024 long) (e ∙ ap (λ (x : List ℕ). written x (0, room)) numbers_are)
 
 pub round_fits : (G : Game) (σ : Session) → shaped G σ ≡ true → σ.round ≤ 65535
 round_fits G σ e = (shaped_parts G σ (rw e tt)).round

@@ -5,10 +5,16 @@ use Rattle.std.specs.Prelude.{◌≡◌, Bool, true, false, not, List, ℕ, ◌+
 abbrev pub NoneBelow : (ℕ → Bool) → ℕ → Type 0
 NoneBelow f n = (q : ℕ) → q < n → f q ≡ false
 
--- the lowest of the first n numbers that passes
+-- r is the lowest of the first n numbers that passes
+pub record Lowest (f : ℕ → Bool) (n r : ℕ) : Type 0 where
+  pub within : r < n
+  pub passes : f r ≡ true
+  pub none : NoneBelow f r
+
+-- the answer of the search
 abbrev pub IsLowest : (ℕ → Bool) → ℕ → Option ℕ → Type 0
 IsLowest f n None = NoneBelow f n
-IsLowest f n (Some r) = (r < n) × (f r ≡ true) × NoneBelow f r
+IsLowest f n (Some r) = Lowest f n r
 
 -- "a seat has no choice"; "move not legal", by the marks of the legal moves in rows of 256
 abbrev pub lacks : List ℕ → ℕ → Bool

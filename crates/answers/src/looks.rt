@@ -17,7 +17,6 @@ use refusals::Refusal;
 use verdict::{Learnt, marks_in};
 
 // 1 where the move is hidden from the asking seat, else 0. A does atom that is not in the table reaches nobody.
-#[tactic(auto, using(crate::proofs::Looking::outcomes))]
 fn looked(learnt: &Learnt, asking: Seat, moving: Seat, choice: Move) -> Result<u8, Refusal>
     requires { Traced (found learnt.now) asking.0 }
     ensures { (G : Game) → Accepted G → found learnt.now ≡ found_in G (reach_of G asking.0) → looked_from result ≡ hidden_from (fit G) asking.0 moving.0 choice.0 }

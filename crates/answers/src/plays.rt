@@ -65,12 +65,13 @@ fn played(learnt: &Learnt, session: Session) -> Result<Session, Refusal>
         return Err(Refusal::LastRound);
     }
     let nexts = marks_in(learnt, Kind::Next, 1);
-    Ok(Session {
+    let next = Session {
         position: first_marks(&nexts),
         choices: [0; 8],
         percepts: marks_in(learnt, Kind::Sees, 256),
         round: session.round + 1,
-    })
+    };
+    Ok(next)
 }
 
 // "play 19, 20, 18, 22", after 21.

@@ -1,5 +1,5 @@
 // Message and model, on an accepted table.
-ghost use Rattle.std.specs.Prelude.{◌≡◌, ◌++◌, ◌≤◌, length, take, drop};
+ghost use Rattle.std.specs.Prelude.{◌≡◌};
 ghost use Rattle.gdl.specs.Game.{Game};
 ghost use Rattle.gdl.specs.Flags.{blank};
 ghost use Rattle.gdl.specs.Computed.{model};
@@ -20,14 +20,6 @@ use session::Session;
 use session::shape::{choices_fit, position_fits, shaped};
 use verdict::{Learnt, marks_in};
 
-// Copies the first n flags into the room.
-fn copy_flags(flags: &[u8; 1024], n: usize, room: &mut [u8])
-    requires { (n ≤ 1024) × (n ≤ length room.old) }
-    ensures { room.new ≡ take n flags.now ++ drop n room.old }
-{
-    room[0..n].copy_from_slice(&flags[0..n]);
-}
-
 // "model 14", after 21.
 pub fn model_fit(learnt: &Learnt, position: [u8; 512], choices: [u16; 8], room: &mut [u8]) -> Refusal
     requires { Asked (found learnt.now) position choices }
@@ -44,7 +36,7 @@ pub fn model_fit(learnt: &Learnt, position: [u8; 512], choices: [u16; 8], room: 
     if room.len() < atoms {
         return Refusal::RoomTooShort;
     }
-    copy_flags(&learnt.flags, atoms, room);
+    room[0..atoms].copy_from_slice(&learnt.flags[0..atoms]);
     Refusal::Success
 }
 

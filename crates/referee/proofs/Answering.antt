@@ -4,24 +4,22 @@ use mathlib.Core.List.{List, [], ◌∷◌, map}
 use lib.ListN.{length}
 use Prim.Native.Nat.{ℕ, suc}
 use lib.Dec.{eqb}
+use Rattle.std.specs.Prelude.{Ok, Err, Result}
 use Rattle.refusals.specs.declared.Refusal.{Refusal}
+use Rattle.refusals.specs.declared.Refusal.TheVariants.{Success}
 use Rattle.gdl.specs.Game.{Atom, Game}
 use Rattle.gdl.specs.Flags.{on, bit, blank}
 use Rattle.gdl.specs.Truth.{is_fact}
 use Rattle.gdl.specs.Computed.{did, facts, levels_of, look, model, reach_of, run}
 use Rattle.gdl.proofs.Walks.{zeros}
 use Rattle.table.specs.declared.header.Header.{Header}
-use Rattle.table.specs.Says.{blank_header}
 use Rattle.rules.specs.Verdict.{Verdict, unfit, fit}
 use Rattle.rules.specs.Judged.{judge}
 use Rattle.rules.specs.Accepted.{Accepted}
 use Rattle.rules.proofs.Accepting.{accepted}
 use Rattle.session.specs.Shape.{blank_session}
 use Rattle.session.specs.declared.Session.{Session}
-use Rattle.verdict.specs.Consulted.{Consulted, examined, found, found_in, Accepts, Learns}
-use Rattle.verdict.specs.declared.Examined.{Examined}
-use Rattle.verdict.specs.declared.Learnt.{Learnt}
-use Rattle.verdict.specs.declared.Learnt.TheVariants as L
+use Rattle.verdict.specs.Consulted.{Consulted, examined, found_in, Accepts}
 use Rattle.calls.specs.declared.Claimed.{Claimed}
 use Rattle.calls.specs.declared.Looked.{Looked}
 use Rattle.calls.specs.declared.Moved.{Moved}
@@ -34,27 +32,30 @@ use Rattle.answers.specs.Asked.{Asked, Traced}
 
 -- ---- check and claim
 
-checked : (x : Examined) (v : Verdict) → x ≡ examined v → x.refusal ≡ check v
+-- what an examined table is answered
+abbrev checked_as : Result Header Refusal → Refusal
+checked_as (Err r) = r
+checked_as (Ok h) = Success
+
+abbrev claimed_as : Result Header Refusal → Claimed
+claimed_as (Err r) = record { refusal = r; claim = 0 }
+claimed_as (Ok h) = record { refusal = Success; claim = h.players.claim }
+
+checked : (v : Verdict) → checked_as (examined v) ≡ check v
 unfolding check
-checked x (unfit r) e = ap (λ (y : Examined). y.refusal) e
-checked x (fit G) e = ap (λ (y : Examined). y.refusal) e ∙ check_fit G
+checked (unfit r) = refl
+checked (fit G) = refl
 
-pub check_kept : (s : List ℕ) (x : Examined) → x ≡ examined (judge s) → CheckPromise s x.refusal
-check_kept s x e = subst (CheckPromise s) (sym (checked x (judge s) e)) (check_meets s)
+pub check_kept : (s : List ℕ) (x : Result Header Refusal) → x ≡ examined (judge s) → CheckPromise s (checked_as x)
+check_kept s x e = subst (CheckPromise s) (sym (ap checked_as e ∙ checked (judge s))) (check_meets s)
 
-pub claim_kept : (v : Verdict) (x : Examined) → x ≡ examined v → ◌≡◌ {A = Claimed} (record { refusal = x.refusal; claim = x.header.players.claim }) (claim v)
-unfolding blank_header claim
-claim_kept (unfit r) x e = ap (λ (y : Examined). record { refusal = y.refusal; claim = y.header.players.claim }) e
-claim_kept (fit G) x e = ap (λ (y : Examined). record { refusal = y.refusal; claim = y.header.players.claim }) e ∙ claim_fit G
+claimed : (v : Verdict) → claimed_as (examined v) ≡ claim v
+unfolding claim
+claimed (unfit r) = refl
+claimed (fit G) = refl
 
--- ---- what was learnt of a table
-
-module _ (v : Verdict) (flags_of : Game → List ℕ) (r : Learnt) (kinds firsts seconds flags : List ℕ) (l : Learns v flags_of r kinds firsts seconds flags) where
-  pub refusing : (f : Refusal) → r ≡ L.Refused f → v ≡ unfit f
-  refusing f e = rw e at l
-
-  pub accepting : (h : Header) → r ≡ L.Accepted h → Accepts v flags_of (found h kinds firsts seconds flags)
-  accepting h e = rw e at l
+pub claim_kept : (v : Verdict) (x : Result Header Refusal) → x ≡ examined v → claimed_as x ≡ claim v
+claim_kept v x e = ap claimed_as e ∙ claimed v
 
 -- ---- no choices are blank choices, no position a blank one
 

@@ -24,7 +24,7 @@ pub fn check(table: &[u8]) -> Refusal
     ensures { CheckPromise table.now result }
 {
     match examine(table) {
-        Err(refusal) => refusal,
+        Err(broken) => broken,
         Ok(_) => Refusal::Success,
     }
 }
