@@ -5,10 +5,9 @@ ghost use Rattle.feed.specs.File.{is_ascii, filled, Loads};
 
 use crate::reading::read_more;
 use lines::text::put_text;
-use std::fs;
-use std::io;
 use std::io::Read;
 use std::rt::Files;
+use std::{fs, io};
 
 // Why the bytes of a file are not in the room.
 #[derive(Clone, Copy, PartialEq, Eq, Debug)]
@@ -40,6 +39,7 @@ fn read_whole<R: Read>(reader: &mut R, room: &mut [u8]) -> io::Result<usize>
 }
 
 // Puts bytes at the front of the room, at most 70,000.
+#[tactic(auto, using(crate::proofs::Loading::fillings))]
 fn fill(bytes: &[u8], room: &mut [u8]) -> Result<usize, LoadFault>
     ensures { (result, room.new) ≡ filled bytes.now room.old }
 {
@@ -54,6 +54,7 @@ fn fill(bytes: &[u8], room: &mut [u8]) -> Result<usize, LoadFault>
 }
 
 // Puts the bytes of a file, at most 70,000, at the front of the room, which stays as it was if they cannot be had or do not fit.
+#[tactic(auto, using(crate::proofs::Loading::fillings))]
 pub fn load<F: Files>(files: &F, name: &[u8], room: &mut [u8]) -> Result<usize, LoadFault>
     ensures { Loads room.old (result, room.new) }
 {

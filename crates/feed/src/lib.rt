@@ -58,7 +58,7 @@ fn line_end(room: &[u8], from: usize, have: usize) -> usize
     ensures lower_bound { (from ≤ result) × (result ≤ have) }
 {
     let end = room[from..have].iter().position(|b| *b == b'\n');
-    end.map_or(have, |n| from + n)
+    from + end.unwrap_or(have - from)
 }
 
 // Moves what stands from `start` up to `have` to the front, and answers how much it is.
@@ -129,6 +129,7 @@ fn step<R: Read>(reader: &mut R, room: &mut [u8], feed: Feed) -> Feed
 }
 
 // Where the next line begins: behind the end of the one that was found.
+#[tactic(auto, unfolding(crate::specs::Feed::behind))]
 fn behind(feed: Feed) -> Feed
     ensures value { result ≡ behind feed }
     ensures by_index { (n : ℕ) → Held n feed → Held n result }
