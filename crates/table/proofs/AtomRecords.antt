@@ -5,16 +5,14 @@ use native.Mathlib.Nat.{sub-zero}
 use mathlib.Core.Path.{◌≡◌, refl}
 use mathlib.Core.List.{List, [], ◌∷◌, ◌++◌, append-nil}
 use lib.ListN.{length, set, length-append}
-use lib.Seq.{sets}
 use borrow.Author.Tests.{lt-ltb, le-ltb}
-use Rattle.std.specs.Prelude.{Result, Ok, Err}
+use Rattle.std.specs.Prelude.{Ok, Err}
 use Rattle.refusals.specs.declared.Refusal.{Refusal}
 use Rattle.refusals.specs.declared.Refusal.TheVariants.{NotAbove}
 use Rattle.gdl.specs.Game.{Atom}
-use Rattle.gdl.specs.Layout.{kinds_of, firsts_of, seconds_of}
 use Rattle.table.specs.Parse.{ok, fault}
 use Rattle.table.specs.Table.{atom, atoms_from}
-use Rattle.table.specs.Says.{atom_of, atom_says, key_of, WroteAtoms, AtomsLaid}
+use Rattle.table.specs.Says.{atom_of, key_of, WroteAtoms, AtomsLaid}
 use Rattle.table.specs.declared.header.Header.{Header}
 use Rattle.table.specs.declared.atoms.AtomRecord.{AtomRecord}
 use Rattle.table.specs.declared.tables.AtomRoom.{AtomRoom}

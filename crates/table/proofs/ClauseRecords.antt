@@ -2,17 +2,16 @@
 use Prim.Native.Nat.{ℕ, zero, suc, ◌+◌, ◌-◌, ◌*◌, ◌≤◌, ◌<◌}
 use native.Mathlib.Nat.{sub-zero}
 use native.Mathlib.Omega.{arith}
-use native.Mathlib.Numerals.{add-one}
 use mathlib.Core.Bool.{Bool, true, false}
 use mathlib.Core.Path.{◌≡◌, refl, ap, ◌∙◌}
 use mathlib.Core.List.{List, [], ◌∷◌, ◌++◌, append-nil, map}
-use lib.ListN.{length, set, replicate, length-append, length-map, length-replicate}
+use lib.ListN.{length, set, replicate, length-append, length-map}
 use lib.Seq.{sets, length-sets}
 use borrow.Rule.Slice.PartMut.{put_mid, mid_of}
 use Rattle.numbers.proofs.Storing.{put_mid-replicate}
 use lib.Dec.{ltb}
-use borrow.Author.Tests.{lt-ltb, le-ltb, ltb-false}
-use Rattle.std.specs.Prelude.{Result, Ok, Err}
+use borrow.Author.Tests.{le-ltb, ltb-false}
+use Rattle.std.specs.Prelude.{Ok, Err}
 use Rattle.refusals.specs.declared.Refusal.{Refusal}
 use Rattle.refusals.specs.declared.Refusal.TheVariants.{OutOfRange}
 use Rattle.gdl.specs.Game.{Literal, Clause}
@@ -20,7 +19,7 @@ use Rattle.gdl.specs.Layout.{code_of, literal_of, heads_of, starts_from, literal
 use Rattle.gdl.proofs.Layouts.{code_literal, literals_snoc, owners_snoc, starts_snoc, owners_long, starts_long_lem}
 use Rattle.table.specs.Parse.{Parse, ok, fault, after, bounded, refuse◌if◌}
 use Rattle.table.specs.Table.{literals, clause, clauses_from}
-use Rattle.table.specs.Says.{outline_of, WroteLiterals, WroteClause, ClausesLaid, WroteClauses}
+use Rattle.table.specs.Says.{outline_of, WroteLiterals, WroteClause, WroteClauses}
 use Rattle.table.specs.declared.clauses.Outline.{Outline}
 use Rattle.table.specs.declared.tables.ClauseRoom.{ClauseRoom}
 use Rattle.table.proofs.Values.{All, all_after, bounded_fine}
@@ -79,27 +78,19 @@ literals_many (suc n) end s at =
 
 -- ---- a clause
 
--- a clause whose head and count are read, by what the reading of its literals gave
-module _ (h : ℕ) (old : List ℕ) (used : ℕ) (ans : Result ℕ Refusal) (new : List ℕ) (count : ℕ) where
-  missed_body : (p : Parse (List Literal)) → WroteLiterals p old used ans new → (f : Refusal) → ans ≡ Err f
-      → WroteClause (after p (λ body m. ok (record { head = h; body = body }) m)) old used (Err f) new
-  missed_body (ok xs n) w f d = cc
-  missed_body (fault g) w f d = cc
+-- a clause whose head, count and literals are read
+module _ (h : ℕ) (old : List ℕ) (used : ℕ) (new : List ℕ) (count m : ℕ) where
+  read_body : (p : Parse (List Literal)) → WroteLiterals p old used (Ok m) new → All (λ xs n. length xs ≡ count) p
+      → WroteClause (after p (λ body n. ok (record { head = h; body = body }) n)) old used (Ok (record { head = record { 0 = h }; count = count }, m)) new
+  read_body (ok xs n) w l = (cc, w.1)
+  read_body (fault g) w l = cc
 
-  read_body : (p : Parse (List Literal)) → WroteLiterals p old used ans new → All (λ xs m. length xs ≡ count) p → (m : ℕ) → ans ≡ Ok m
-      → WroteClause (after p (λ body m. ok (record { head = h; body = body }) m)) old used (Ok (record { head = record { 0 = h }; count = count }, m)) new
-  read_body (ok xs n) w l m d = (cc, w.1)
-  read_body (fault g) w l m d = cc
-
-module _ (s : List ℕ) (at a used : ℕ) (old new : List ℕ) {h n1 count n2 : ℕ} {ans : Result ℕ Refusal} (e1 : ok h n1 ≡ bounded 0 a s at) (e2 : ok count n2 ≡ bounded 0 65 s n1)
-    (fits : count ≤ 8192 - used) (w : WroteLiterals (literals count (2 * a) s n2) old used ans new) where
-  pub no_body : {f : Refusal} → ans ≡ Err f → WroteClause (clause a (8192 - used) s at) old used (Err f) new
-  unfolding clause
-  no_body {f} d = rw (← e1, ← e2, le-ltb (8192 - used) count) (missed_body h old used ans new count _ w f d)
-
-  pub all_clause : {m : ℕ} → ans ≡ Ok m → WroteClause (clause a (8192 - used) s at) old used (Ok (record { head = record { 0 = h }; count = count }, m)) new
-  unfolding clause
-  all_clause {m} d = rw (← e1, ← e2, le-ltb (8192 - used) count) (read_body h old used ans new count _ w (literals_many count (2 * a) s n2) m d)
+pub all_clause : (s : List ℕ) (at a used : ℕ) (old new : List ℕ) (m : ℕ) {h n1 count n2 : ℕ} → ok h n1 ≡ bounded 0 a s at → ok count n2 ≡ bounded 0 65 s n1
+    → count ≤ 8192 - used → WroteLiterals (literals count (2 * a) s n2) old used (Ok m) new
+    → WroteClause (clause a (8192 - used) s at) old used (Ok (record { head = record { 0 = h }; count = count }, m)) new
+unfolding clause
+all_clause s at a used old new m {h} {n1} {count} {n2} e1 e2 fits w =
+    rw (← e1, ← e2, le-ltb (8192 - used) count) (read_body h old used new count m _ w (literals_many count (2 * a) s n2))
 
 refuse_passed : (t : Bool) (f : Refusal) (s : List ℕ) (at : ℕ) → All (λ _ n. t ≡ false) ((refuse f if t) s at)
 refuse_passed true f s at = tt

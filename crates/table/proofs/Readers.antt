@@ -1,7 +1,7 @@
 -- Laws of the readers, in the form in which the code's tests and answers meet them.
-use Prim.Native.Nat.{ℕ, ◌≤◌, ◌<◌, ◌+◌, ◌-◌}
+use Prim.Native.Nat.{ℕ, ◌≤◌, ◌<◌, ◌-◌}
 use native.Mathlib.Omega.{arith}
-use mathlib.Core.Path.{◌≡◌, refl, sym, ap, subst, ◌∙◌}
+use mathlib.Core.Path.{◌≡◌, refl, sym, ap, ◌∙◌}
 use mathlib.Core.List.{List}
 use lib.ListN.{get_or, get_or-map}
 use borrow.Author.Tests.{le-leb, lt-leb, le-ltb, lt-ltb}
@@ -12,12 +12,9 @@ use Rattle.std.specs.Prelude.{Result, Ok, Err}
 use Rattle.refusals.specs.declared.Refusal.{Refusal}
 use Rattle.refusals.specs.declared.Refusal.TheVariants.{OutOfRange}
 use Rattle.table.specs.Parse.{Parse, ok, fault, refusal_of, bounded}
-use Rattle.table.specs.Table.{Bound, Absent, Below, players, sizes, header, field, first_bounds, second_bounds, first_bound, second_bound, atom}
-use Rattle.table.specs.Says.{field_says, says, end_of, ends, EndsOf}
-use Rattle.table.proofs.Values.{All, Fine, bounded_fine}
+use Rattle.table.specs.Table.{Bound, Absent, Below, field, first_bounds, second_bounds, first_bound, second_bound}
+use Rattle.table.specs.Says.{end_of, ends, EndsOf}
 use Rattle.table.specs.declared.header.Header.{Header}
-use Rattle.table.specs.declared.header.Players.{Players}
-use Rattle.table.specs.declared.header.Sizes.{Sizes}
 
 module _ (s : List ℕ) (at lo end : ℕ) (r : Result Item Fault) (e : r ≡ number_at s at) where
   pub number_missing : (f : Fault) (q : Refusal) → r ≡ Err f → q ≡ refusal_of f at → fault q ≡ bounded lo end s at

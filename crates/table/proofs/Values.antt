@@ -10,12 +10,10 @@ use Rattle.numbers.specs.Number.{number_at}
 use Rattle.numbers.proofs.Reading as N
 use Rattle.numbers.proofs.Reading.{by_test}
 use Rattle.std.specs.Prelude.{Result, Ok, Err}
-use Rattle.refusals.specs.declared.Refusal.{Refusal}
 use Rattle.numbers.specs.declared.Item.{Item}
 use Rattle.numbers.specs.declared.Fault.{Fault}
 use Rattle.table.specs.Parse.{Parse, ok, fault, after, in_range, bounded}
 use Rattle.table.specs.Table.{players, sizes, header}
-use Rattle.table.specs.Says.{says}
 use Rattle.table.specs.declared.header.Header.{Header}
 
 -- what holds of every value that a reading gives
@@ -49,8 +47,6 @@ bounded_fine lo end s at = in_range_lem s at lo end (number_at s at) (N.sound s 
 pub read_below : (v n lo end : ℕ) (s : List ℕ) (at : ℕ) → ok v n ≡ bounded lo end s at → v < end
 read_below v n lo end s at e = let f : Fine s at lo end v n = rw (← e) at (bounded_fine lo end s at) in f.high
 
-pub ruleset belows = (read_below)
-
 pub sizes_fine : (s : List ℕ) (at : ℕ) → All (λ z n. z.atoms ≤ 1024) (sizes s at)
 unfolding sizes
 sizes_fine s at =
@@ -67,5 +63,7 @@ pub header_fine : (s : List ℕ) (at : ℕ) → All (λ h n. h.sizes.atoms ≤ 1
 unfolding header
 header_fine s at = all_after _ _ (players s at) _ (any (players s at)) λ p n _. all_after _ _ (sizes s n) _ (sizes_fine s n) λ z m h. h
 
-pub few_atoms_lem : (s : List ℕ) (at : ℕ) (r : Result (Header × ℕ) Refusal) (x : Header × ℕ) → says r ≡ header s at → r ≡ Ok x → x.0.sizes.atoms ≤ 1024
-few_atoms_lem s at r x e g = rw (← e, g) at (header_fine s at)
+pub few_atoms_lem : (h : Header) (n : ℕ) (s : List ℕ) (at : ℕ) → ok h n ≡ header s at → h.sizes.atoms ≤ 1024
+few_atoms_lem h n s at e = rw (← e) at (header_fine s at)
+
+pub ruleset belows = (read_below, few_atoms_lem)

@@ -60,6 +60,7 @@ pub struct Read {
 }
 
 // The count of clauses, the clauses, and nothing after, into lent room; the answer is the count.
+#[tactic(auto, using(crate::proofs::Whole::rest_laws, crate::proofs::Values::belows), unfolding(crate::specs::Table::clauses))]
 fn read_rest(s: &[u8], at: usize, atoms: u16, room: &mut ClauseRoom) -> Result<u16, Refusal>
     ensures { WroteRest (clauses atoms s.now at) room.old result room.new }
 {
@@ -72,6 +73,7 @@ fn read_rest(s: &[u8], at: usize, atoms: u16, room: &mut ClauseRoom) -> Result<u
 }
 
 // The atoms and the clauses of a table whose header was read, into lent arrays; the answer is the count of clauses.
+#[tactic(auto, using(crate::proofs::Whole::game_laws))]
 fn read_game(s: &[u8], at: usize, h: Header, arrays: &mut Arrays) -> Result<u16, Refusal>
     requires { h.sizes.atoms ≤ 1024 }
     ensures { WroteGame (game h s.now at) h result arrays.old arrays.new }
@@ -82,6 +84,7 @@ fn read_game(s: &[u8], at: usize, h: Header, arrays: &mut Arrays) -> Result<u16,
 
 // The table that the bytes hold, or the first fault in reading order, into lent arrays, since 46 KB would be copied at each answer.
 // Later places stay as they are.
+#[tactic(auto, using(crate::proofs::Whole::table_laws, crate::proofs::Values::belows), unfolding(crate::specs::Table::table))]
 pub fn read_table(s: &[u8], arrays: &mut Arrays) -> Result<Read, Refusal>
     ensures { WroteTable (table s.now 0) result arrays.old arrays.new }
 {

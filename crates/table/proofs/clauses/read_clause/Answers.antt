@@ -6,5 +6,5 @@ use Rattle.table.proofs.clauses.read_clause.Goals as goal
 pub returns : goal.returns
 returns c =
     let head = rw c.from.ensures at c.in_ok-head.ensures in
-    let body = rw c.from-3.ensures at c.read_literals.ensures in
-    all_clause _ _ _ _ _ _ head c.in_ok-count.ensures (omega arith) body c.in_ok-next.was
+    let body = rw c.from-3.ensures at c.in_ok-next.ensures in
+    all_clause _ _ _ _ _ _ _ head c.in_ok-count.ensures (omega arith) body
