@@ -153,6 +153,9 @@ queue_none m q long flags queue_long = record {
   queue_long = queue_long;
 }
 
+pub queue_blank : Queue no_marks no_marks 0
+queue_blank = queue_none no_marks no_marks no_marks_long (λ p. omega (arith, unset p)) no_marks_long
+
 -- marks made one by one
 pub waiting_none : (w : Worklist) → w.marks ≡ no_marks → Waiting w
 waiting_none w em = record { waits = λ j e. absurd (omega (arith, unset j, rw em at e)) }

@@ -1,139 +1,149 @@
 -- The turn of an atom: what the bodies of its clauses bring in, and what it brings in if it is true(f).
 use mathlib.Core.Path.{◌≡◌, sym, ap, subst, ◌∙◌}
-use mathlib.Core.List.{List}
-use Prim.Native.Nat.{ℕ, suc, ◌+◌, ◌*◌, ◌-◌, ◌/◌, ◌<◌, ◌≤◌}
+use Prim.Native.Nat.{ℕ, suc, ◌+◌, ◌-◌, ◌/◌, ◌<◌, ◌≤◌}
 use native.Mathlib.Omega.{arith}
 use native.Mathlib.Decide.{ℕ_discrete}
 use lib.ListN.{length, get_or}
 use mir.Syntax.{w64}
 use mir.Val.{Fits}
+use Rattle.gdl.specs.declared.arrays.AtomArrays.{AtomArrays}
+use Rattle.gdl.specs.declared.arrays.ClauseArrays.{ClauseArrays}
 use Rattle.edges.specs.Uses.{FirstUse}
-use Rattle.edges.specs.Marks.{Markable, Marked, Joined, Brought}
+use Rattle.edges.specs.Marks.{Marked, Joined, Brought}
+use Rattle.edges.specs.declared.worklist.Worklist.{Worklist}
 use Rattle.edges.proofs.Chains.{Walked, walk_starts, walk_less, walk_more}
 use Rattle.edges.proofs.Marking.{One, one, joined_none, joined_more, joined_as}
-use Rattle.reach.specs.Bodies.{InBody, InBodies, HeadAt, BodyAsked, BodiesAsked}
-use Rattle.reach.specs.Onward.{Onward, Follows, OnwardAsked}
+use Rattle.reach.specs.Bodies.{InBody, InBodies, HeadAt}
+use Rattle.reach.specs.Onward.{Onward, Follows}
+use Rattle.reach.specs.declared.steps.Steps.{Steps}
 
 -- ---- the body of a clause
 
--- its atoms before place k are marked
-pub record BodyBrought (starts literals : List ℕ) (c : ℕ) (m₀ q₀ : List ℕ) (n : ℕ) (m q : List ℕ) (out k : ℕ) : Type 0 where
-  pub joined : Joined (InBody starts literals c) m₀ q₀ n m q out
-  pub from : get_or starts c 0 ≤ k
-  pub met : (j : ℕ) → get_or starts c 0 ≤ j → j < k → get_or m (get_or literals j 0 / 2) 0 ≡ 1
+-- its atoms before place j are marked
+pub record BodyBrought (c : ClauseArrays) (k : ℕ) (w₀ w : Worklist) (j : ℕ) : Type 0 where
+  pub joined : Joined (InBody c k) w₀ w
+  pub from : get_or c.starts.now k 0 ≤ j
+  pub met : (i : ℕ) → get_or c.starts.now k 0 ≤ i → i < j → get_or w.marks (get_or c.literals.now i 0 / 2) 0 ≡ 1
 
-module _ (starts literals : List ℕ) (c : ℕ) (m₀ q₀ : List ℕ) (n : ℕ) (a : BodyAsked starts literals c m₀ q₀ n) where
-  pub body_starts : (k : ℕ) → k ≡ get_or starts c 0 → BodyBrought starts literals c m₀ q₀ n m₀ q₀ n k
-  body_starts k ek = record { joined = joined_none a.queue; from = omega arith; met = λ j ge lt. absurd (omega arith) }
+module _ (s : Steps) (k : ℕ) (here : k < length s.clauses.heads.now) where
+  pub start_in : k < length s.clauses.starts.now
+  start_in = omega (arith, s.indexed.readable.clauses.long)
 
-  module _ (m q : List ℕ) (out k end : ℕ) (i : BodyBrought starts literals c m₀ q₀ n m q out k) (ee : end ≡ get_or starts (c + 1) 0) where
-    module _ (lt : k < end) where
-      pub literal_in : k < length literals
-      literal_in = omega (arith, a.clauses.ends c a.within)
+  pub end_in : k + 1 < length s.clauses.starts.now
+  end_in = omega (arith, s.indexed.readable.clauses.long)
 
-      pub literal_scaled : Fits w64 (k * 2)
-      literal_scaled = omega (arith, literal_in, a.clauses.few)
+  pub end_fits : Fits w64 (k + 1)
+  end_fits = omega (arith, s.indexed.readable.clauses.is_heads.few)
 
-      module _ (h : ℕ) (eh : h ≡ get_or literals k 0 / 2) where
-        atom_in_lem : h < 1024
-        atom_in_lem = omega (arith, a.clauses.atoms k literal_in)
+  module _ (w₀ : Worklist) where
+    pub body_starts : (j : ℕ) → j ≡ get_or s.clauses.starts.now k 0 → BodyBrought s.clauses k w₀ w₀ j
+    body_starts j ej = record { joined = joined_none; from = omega arith; met = λ i ge lt. absurd (omega arith) }
 
-        pub body_markable : Markable h m out
-        body_markable = record { node = atom_in_lem; has = i.joined.queue.has }
+    module _ (w : Worklist) (j end : ℕ) (i : BodyBrought s.clauses k w₀ w j) (ee : end ≡ get_or s.clauses.starts.now (k + 1) 0) where
+      module _ (lt : j < end) where
+        pub literal_in : j < length s.clauses.literals.now
+        literal_in = omega (arith, s.indexed.readable.clauses.ends k here)
 
-        pub body_more : (m' q' : List ℕ) (out' : ℕ) → Marked h m q out m' q' out' → BodyBrought starts literals c m₀ q₀ n m' q' out' (k + 1)
-        body_more m' q' out' s =
-            let w : One (InBody starts literals c) h m q out m' q' out' = one atom_in_lem (record { place = k; from = i.from; to = omega arith; is_atom = sym eh }) i.joined.queue s in
-            record {
-              joined = joined_more i.joined w.joined;
-              from = omega (arith, i.from);
-              met = λ j ge l. elim (ℕ_discrete j k) [
-                | yes e ↦ subst (λ (y : ℕ). get_or m' y 0 ≡ 1) (eh ∙ ap (λ (y : ℕ). get_or literals y 0 / 2) (sym e)) w.here
-                | no ne ↦ w.joined.keeps (get_or literals j 0 / 2) (i.met j ge (omega arith))
-              ];
-            }
+        module _ (h : ℕ) (eh : h ≡ get_or s.clauses.literals.now j 0 / 2) where
+          pub literal_node : h < 1024
+          literal_node = omega (arith, s.indexed.readable.clauses.atoms j literal_in)
 
-    pub body_done : end ≤ k → Brought (InBody starts literals c) m₀ q₀ n m q out
-    body_done le = record { joined = i.joined; all = λ h b. subst (λ (y : ℕ). get_or m y 0 ≡ 1) b.is_atom (i.met b.place b.from (omega (arith, b.to))) }
+          pub body_more : (w' : Worklist) → Marked h w w' → BodyBrought s.clauses k w₀ w' (j + 1)
+          body_more w' m =
+              let o : One (InBody s.clauses k) h w w' = one literal_node (record { place = j; from = i.from; to = omega arith; is_atom = sym eh }) m in
+              record {
+                joined = joined_more i.joined o.joined;
+                from = omega (arith, i.from);
+                met = λ x ge l. elim (ℕ_discrete x j) [
+                  | yes e ↦ subst (λ (y : ℕ). get_or w'.marks y 0 ≡ 1) (eh ∙ ap (λ (y : ℕ). get_or s.clauses.literals.now y 0 / 2) (sym e)) o.here
+                  | no ne ↦ o.joined.keeps (get_or s.clauses.literals.now x 0 / 2) (i.met x ge (omega arith))
+                ];
+              }
 
-pub ruleset body_rules = (body_starts, literal_in, literal_scaled, body_markable, body_more, body_done)
+      pub body_done : end ≤ j → Brought (InBody s.clauses k) w₀ w
+      body_done le = record { joined = i.joined; all = λ h b. subst (λ (y : ℕ). get_or w.marks y 0 ≡ 1) b.is_atom (i.met b.place b.from (omega (arith, b.to))) }
+
+pub ruleset body_rules = (start_in, end_in, end_fits, body_starts, literal_in, literal_node, body_more, body_done)
 
 -- ---- the clauses of a head
 
--- those before clause c are done
-pub record BodiesBrought (heads starts literals : List ℕ) (p : ℕ) (m₀ q₀ : List ℕ) (n : ℕ) (m q : List ℕ) (out c : ℕ) : Type 0 where
-  pub joined : Joined (InBodies heads starts literals p) m₀ q₀ n m q out
-  pub walked : Walked (HeadAt heads) (length heads) (λ d. (h : ℕ) → InBody starts literals d h → get_or m h 0 ≡ 1) p c
+-- those before clause k are done
+pub record BodiesBrought (c : ClauseArrays) (p : ℕ) (w₀ w : Worklist) (k : ℕ) : Type 0 where
+  pub joined : Joined (InBodies c p) w₀ w
+  pub walked : Walked (HeadAt c.heads.now) (length c.heads.now) (λ d. (h : ℕ) → InBody c d h → get_or w.marks h 0 ≡ 1) p k
 
-module _ (heads starts literals first next : List ℕ) (p : ℕ) (m₀ q₀ : List ℕ) (n : ℕ) (a : BodiesAsked heads starts literals first next p m₀ q₀ n) where
-  pub bodies_start : (c : ℕ) → c ≡ get_or first p 0 → BodiesBrought heads starts literals p m₀ q₀ n m₀ q₀ n c
-  bodies_start c ec = record {
-    joined = joined_none a.queue;
-    walked = walk_starts (subst (FirstUse (HeadAt heads) (length heads) 2048 p 0) (sym ec) (a.index.chained.firsts p a.atom));
+module _ (s : Steps) (p : ℕ) (lp : p < 1024) (w₀ : Worklist) where
+  pub bodies_start : (k : ℕ) → k ≡ get_or s.heads.now.first p 0 → BodiesBrought s.clauses p w₀ w₀ k
+  bodies_start k ek = record {
+    joined = joined_none;
+    walked = walk_starts (subst (FirstUse (HeadAt s.clauses.heads.now) (length s.clauses.heads.now) 2048 p 0) (sym ek) (s.indexed.clauses.chained.firsts p lp));
   }
 
-  module _ (m q : List ℕ) (out c : ℕ) (i : BodiesBrought heads starts literals p m₀ q₀ n m q out c) where
-    module _ (lt : c < length heads) where
-      module _ (c' : ℕ) (ec : c' ≡ get_or next c 0) where
-        after : FirstUse (HeadAt heads) (length heads) 2048 p (suc c) c'
-        after = subst (FirstUse (HeadAt heads) (length heads) 2048 p (suc c)) (sym ec) (a.index.chained.nexts p c a.atom (omega arith) lt (i.walked.here lt))
+  module _ (w : Worklist) (k : ℕ) (i : BodiesBrought s.clauses p w₀ w k) where
+    module _ (lt : k < length s.clauses.heads.now) where
+      pub clause_node : k < 2048
+      clause_node = omega (arith, s.indexed.readable.clauses.is_heads.few)
 
-        pub clause_less : length heads - c' < length heads - c
+      module _ (k' : ℕ) (ek : k' ≡ get_or s.heads.now.next k 0) where
+        after : FirstUse (HeadAt s.clauses.heads.now) (length s.clauses.heads.now) 2048 p (suc k) k'
+        after = subst (FirstUse (HeadAt s.clauses.heads.now) (length s.clauses.heads.now) 2048 p (suc k)) (sym ek) (s.indexed.clauses.chained.nexts p k lp (omega arith) lt (i.walked.here lt))
+
+        pub clause_less : length s.clauses.heads.now - k' < length s.clauses.heads.now - k
         clause_less = walk_less after lt
 
-        pub bodies_more : (m' q' : List ℕ) (out' : ℕ) → Brought (InBody starts literals c) m q out m' q' out' → BodiesBrought heads starts literals p m₀ q₀ n m' q' out' c'
-        bodies_more m' q' out' b = record {
-          joined = joined_more i.joined (joined_as (λ h x. record { clause = c; within = lt; is_head = i.walked.here lt; in_body = x }) b.joined);
+        pub bodies_more : (w' : Worklist) → Brought (InBody s.clauses k) w w' → BodiesBrought s.clauses p w₀ w' k'
+        bodies_more w' b = record {
+          joined = joined_more i.joined (joined_as (λ h x. record { clause = k; within = lt; is_head = i.walked.here lt; in_body = x }) b.joined);
           walked = walk_more i.walked after (λ d f h x. b.joined.keeps h (f h x)) b.all;
         }
 
-    pub bodies_done : length heads ≤ c → Brought (InBodies heads starts literals p) m₀ q₀ n m q out
+    pub bodies_done : length s.clauses.heads.now ≤ k → Brought (InBodies s.clauses p) w₀ w
     bodies_done le = record { joined = i.joined; all = λ h b. i.walked.met b.clause (omega (arith, b.within)) b.within b.is_head h b.in_body }
 
-pub ruleset bodies_rules = (bodies_start, clause_less, bodies_more, bodies_done)
+pub ruleset bodies_rules = (bodies_start, clause_node, clause_less, bodies_more, bodies_done)
 
 -- ---- the next and init atoms of a fluent
 
 -- those before atom h are marked
-pub record OnwardBrought (kinds firsts : List ℕ) (p : ℕ) (m₀ q₀ : List ℕ) (n : ℕ) (m q : List ℕ) (f out h : ℕ) : Type 0 where
-  pub joined : Joined (Follows kinds firsts p) m₀ q₀ n m q out
-  pub walked : Walked (Onward kinds firsts) (length kinds) (λ j. get_or m j 0 ≡ 1) f h
+pub record OnwardBrought (a : AtomArrays) (p : ℕ) (w₀ w : Worklist) (f h : ℕ) : Type 0 where
+  pub joined : Joined (Follows a p) w₀ w
+  pub walked : Walked (Onward a) (length a.kinds.now) (λ j. get_or w.marks j 0 ≡ 1) f h
 
-module _ (kinds firsts fluents later : List ℕ) (p : ℕ) (m₀ q₀ : List ℕ) (n : ℕ) (a : OnwardAsked kinds firsts fluents later p m₀ q₀ n) where
-  pub onward_none : (get_or kinds p 0 ≡ 3 → ⊥) → Brought (Follows kinds firsts p) m₀ q₀ n m₀ q₀ n
-  onward_none ne = record { joined = joined_none a.queue; all = λ h b. absurd (ne b.is_true) }
+module _ (s : Steps) (p : ℕ) (lp : p < length s.atoms.kinds.now) (w₀ : Worklist) where
+  pub onward_none : (get_or s.atoms.kinds.now p 0 ≡ 3 → ⊥) → Brought (Follows s.atoms p) w₀ w₀
+  onward_none ne = record { joined = joined_none; all = λ h b. absurd (ne b.is_true) }
 
-  module _ (t : get_or kinds p 0 ≡ 3) (f : ℕ) (ef : f ≡ get_or firsts p 0) where
+  pub first_in : p < length s.atoms.firsts.now
+  first_in = omega (arith, s.indexed.readable.lows.columns.same)
+
+  module _ (t : get_or s.atoms.kinds.now p 0 ≡ 3) (f : ℕ) (ef : f ≡ get_or s.atoms.firsts.now p 0) where
     pub fluent_in : f < 512
-    fluent_in = omega (arith, a.lows.low p a.atom t)
+    fluent_in = omega (arith, s.indexed.readable.lows.low p lp t)
 
-    pub fluent_scaled : Fits w64 (f * 2)
-    fluent_scaled = omega (arith, fluent_in)
-
-    pub onward_starts : (h : ℕ) → h ≡ get_or fluents f 0 → OnwardBrought kinds firsts p m₀ q₀ n m₀ q₀ f n h
+    pub onward_starts : (h : ℕ) → h ≡ get_or s.fluents.now.first f 0 → OnwardBrought s.atoms p w₀ w₀ f h
     onward_starts h eh = record {
-      joined = joined_none a.queue;
-      walked = walk_starts (subst (FirstUse (Onward kinds firsts) (length kinds) 1024 f 0) (sym eh) (a.index.chained.firsts f fluent_in));
+      joined = joined_none;
+      walked = walk_starts (subst (FirstUse (Onward s.atoms) (length s.atoms.kinds.now) 1024 f 0) (sym eh) (s.indexed.atoms.chained.firsts f fluent_in));
     }
 
-    module _ (m q : List ℕ) (out h : ℕ) (i : OnwardBrought kinds firsts p m₀ q₀ n m q f out h) where
-      module _ (lt : h < length kinds) where
+    module _ (w : Worklist) (h : ℕ) (i : OnwardBrought s.atoms p w₀ w f h) where
+      module _ (lt : h < length s.atoms.kinds.now) where
         pub later_in : h < 1024
-        later_in = omega (arith, a.lows.columns.few)
+        later_in = omega (arith, s.indexed.readable.lows.columns.few)
 
-        module _ (h' : ℕ) (eh : h' ≡ get_or later h 0) where
-          beyond : FirstUse (Onward kinds firsts) (length kinds) 1024 f (suc h) h'
-          beyond = subst (FirstUse (Onward kinds firsts) (length kinds) 1024 f (suc h)) (sym eh) (a.index.chained.nexts f h fluent_in (omega arith) lt (i.walked.here lt))
+        module _ (h' : ℕ) (eh : h' ≡ get_or s.fluents.now.next h 0) where
+          beyond : FirstUse (Onward s.atoms) (length s.atoms.kinds.now) 1024 f (suc h) h'
+          beyond = subst (FirstUse (Onward s.atoms) (length s.atoms.kinds.now) 1024 f (suc h)) (sym eh) (s.indexed.atoms.chained.nexts f h fluent_in (omega arith) lt (i.walked.here lt))
 
-          pub onward_less : length kinds - h' < length kinds - h
+          pub onward_less : length s.atoms.kinds.now - h' < length s.atoms.kinds.now - h
           onward_less = walk_less beyond lt
 
-          pub onward_more : (m' q' : List ℕ) (out' : ℕ) → Marked h m q out m' q' out' → OnwardBrought kinds firsts p m₀ q₀ n m' q' f out' h'
-          onward_more m' q' out' s =
-              let w : One (Follows kinds firsts p) h m q out m' q' out' = one later_in (record { is_true = t; within = lt; onward = subst (λ (x : ℕ). Onward kinds firsts x h) ef (i.walked.here lt) }) i.joined.queue s in
-              record { joined = joined_more i.joined w.joined; walked = walk_more i.walked beyond w.joined.keeps w.here }
+          pub onward_more : (w' : Worklist) → Marked h w w' → OnwardBrought s.atoms p w₀ w' f h'
+          onward_more w' m =
+              let o : One (Follows s.atoms p) h w w' = one later_in (record { is_true = t; within = lt; onward = subst (λ (x : ℕ). Onward s.atoms x h) ef (i.walked.here lt) }) m in
+              record { joined = joined_more i.joined o.joined; walked = walk_more i.walked beyond o.joined.keeps o.here }
 
-      pub onward_done : length kinds ≤ h → Brought (Follows kinds firsts p) m₀ q₀ n m q out
-      onward_done le = record { joined = i.joined; all = λ j b. i.walked.met j (omega (arith, b.within)) b.within (subst (λ (x : ℕ). Onward kinds firsts x j) (sym ef) b.onward) }
+      pub onward_done : length s.atoms.kinds.now ≤ h → Brought (Follows s.atoms p) w₀ w
+      onward_done le = record { joined = i.joined; all = λ j b. i.walked.met j (omega (arith, b.within)) b.within (subst (λ (x : ℕ). Onward s.atoms x j) (sym ef) b.onward) }
 
-pub ruleset onward_rules = (onward_none, fluent_in, fluent_scaled, onward_starts, later_in, onward_less, onward_more, onward_done)
+pub ruleset onward_rules = (onward_none, first_in, fluent_in, onward_starts, later_in, onward_less, onward_more, onward_done)

@@ -20,6 +20,8 @@ use Rattle.gdl.proofs.Bits.{bits_at, reach_bits}
 use Rattle.gdl.proofs.Reading.{any_agree}
 use Rattle.gdl.proofs.Reaching.{reach_is, reach_only, reach_length}
 use Rattle.edges.proofs.Setting.{blank_at}
+use Rattle.gdl.specs.declared.arrays.AtomArrays.{AtomArrays}
+use Rattle.gdl.specs.declared.arrays.ClauseArrays.{ClauseArrays}
 use Rattle.reach.specs.Promise.{Laid, Ready, Reached}
 
 -- flags, 0 or 1, that are 1 at the same places
@@ -37,8 +39,8 @@ same_flags r s e a b f g = ext_get_or 0 r s e (λ p lt. at p)
 pub reached_unique : {G : Game} {seat : ℕ} {r s : List ℕ} → Reached G seat r → Reached G seat s → r ≡ s
 reached_unique {r = r} {s = s} a b = same_flags r s (a.long ∙ sym b.long) a.bits b.bits (a.reach.least (on s) b.reach.reaches) (b.reach.least (on r) a.reach.reaches)
 
-pub reach_of_determined : {kinds firsts heads starts literals : List ℕ} → Ready kinds firsts heads starts literals → (seat : ℕ) (r s : List ℕ)
-    → ((G : Game) → Laid G kinds firsts heads starts literals → Reached G seat r) → ((G : Game) → Laid G kinds firsts heads starts literals → Reached G seat s) → r ≡ s
+pub reach_of_determined : {atoms : AtomArrays} {clauses : ClauseArrays} → Ready atoms clauses → (seat : ℕ) (r s : List ℕ)
+    → ((G : Game) → Laid G atoms clauses → Reached G seat r) → ((G : Game) → Laid G atoms clauses → Reached G seat s) → r ≡ s
 reach_of_determined w seat r s a b = reached_unique (a w.game w.laid) (b w.game w.laid)
 
 -- ---- the computed reach

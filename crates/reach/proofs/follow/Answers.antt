@@ -1,19 +1,7 @@
--- Each marked atom is done or waits in the queue, and at most 1,024 are visited.
-use Rattle.reach.proofs.Reached.{followings}
-use borrow.Author.Rules.{rules}
+-- The queue has at most 1,024 atoms.
+use native.Mathlib.Omega.{arith}
+use Rattle.edges.proofs.Closing.{queue_few}
 use Rattle.reach.proofs.follow.Goals as goal
 
-pub loop-at-init : goal.loop-at-init
-loop-at-init c = search (rules, followings)
-
-pub visit-n-requires : goal.visit-n-requires
-visit-n-requires c = search (rules, followings)
-
-pub loop-at-smaller : goal.loop-at-smaller
-loop-at-smaller c = search (rules, followings)
-
-pub loop-at-preserved : goal.loop-at-preserved
-loop-at-preserved c = search (rules, followings)
-
-pub returns : goal.returns
-returns c = search (rules, followings)
+pub overflow_add-at : goal.overflow_add-at
+overflow_add-at c = omega (arith, queue_few c.loop-at.work.queued)

@@ -5,7 +5,7 @@ use Rattle.reach.specs.Steps.{Brings}
 use Rattle.reach.proofs.follow.Given as goal
 
 abbrev pub invariant-loop-at : goal.invariant-loop-at
-invariant-loop-at l = Closing (Brings l.kinds l.firsts l.heads l.starts l.literals) l.initial.marks l.marks l.queue l.at l.n
+invariant-loop-at l = Closing (Brings l.steps.atoms l.steps.clauses) l.initial.work.marks l.work l.at
 
 abbrev pub decreases-loop-at : goal.decreases-loop-at
 decreases-loop-at l = 1024 - l.at

@@ -1,16 +1,13 @@
 -- What the fluent brings in joined, then what the bodies bring in; so the atom is done.
-use Rattle.reach.proofs.Reached.{visits}
-use borrow.Author.Rules.{rules}
+use native.Mathlib.Omega.{arith}
+use Rattle.reach.proofs.Reached.{visit_place, visit_done}
 use Rattle.reach.proofs.visit.Goals as goal
 
-pub offset_bounds-queue-at : goal.offset_bounds-queue-at
-offset_bounds-queue-at c = search (rules, visits)
+pub offset_bounds-work-at : goal.offset_bounds-work-at
+offset_bounds-work-at c = omega (arith, visit_place _ _ _ _ c.requires)
 
-pub bounds-queue-at : goal.bounds-queue-at
-bounds-queue-at c = search (rules, visits)
-
-pub bring_onward-out-requires : goal.bring_onward-out-requires
-bring_onward-out-requires c = search (rules, visits)
+pub bounds-work-at : goal.bounds-work-at
+bounds-work-at c = visit_place _ _ _ _ c.requires
 
 pub returns : goal.returns
-returns c = search (rules, visits)
+returns c = visit_done _ _ _ _ c.requires _ c.from-p.ensures _ c.bring_onward.ensures _ c.bring_bodies.ensures

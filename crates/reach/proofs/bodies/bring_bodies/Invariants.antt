@@ -5,7 +5,7 @@ use Rattle.reach.proofs.Bringing.{BodiesBrought}
 use Rattle.reach.proofs.bodies.bring_bodies.Given as goal
 
 abbrev pub invariant-loop-c : goal.invariant-loop-c
-invariant-loop-c l = BodiesBrought l.heads l.starts l.literals l.p l.initial.marks l.initial.queue l.n l.marks l.queue l.out l.c
+invariant-loop-c l = BodiesBrought l.steps.clauses l.p l.initial.work l.work l.c
 
 abbrev pub decreases-loop-c : goal.decreases-loop-c
-decreases-loop-c l = length l.heads - l.c
+decreases-loop-c l = length l.steps.clauses.heads.now - l.c

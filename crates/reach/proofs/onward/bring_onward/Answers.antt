@@ -1,25 +1,7 @@
--- The atoms of the fluent before q are marked, and each next one has a higher number.
-use Rattle.reach.proofs.Bringing.{onward_rules}
-use borrow.Author.Rules.{rules}
+-- The next of the fluent's atoms is marked.
+use mathlib.Core.Path.{◌∙◌}
+use Rattle.reach.proofs.Bringing.{onward_more}
 use Rattle.reach.proofs.onward.bring_onward.Goals as goal
 
-pub returns-then-kinds-p-ne-TRUE_KIND : goal.returns-then-kinds-p-ne-TRUE_KIND
-returns-then-kinds-p-ne-TRUE_KIND c = search (rules, onward_rules)
-
-pub offset_bounds-fluents-f : goal.offset_bounds-fluents-f
-offset_bounds-fluents-f c = search (rules, onward_rules)
-
-pub bounds-fluents-f : goal.bounds-fluents-f
-bounds-fluents-f c = search (rules, onward_rules)
-
-pub loop-q-init : goal.loop-q-init
-loop-q-init c = search (rules, onward_rules)
-
-pub loop-q-smaller : goal.loop-q-smaller
-loop-q-smaller c = search (rules, onward_rules)
-
 pub loop-q-preserved : goal.loop-q-preserved
-loop-q-preserved c = search (rules, onward_rules)
-
-pub returns : goal.returns
-returns c = search (rules, onward_rules)
+loop-q-preserved c = onward_more c.args.steps.now _ c.requires _ (c.if-steps-p.false ∙ c.number.ensures) _ c.from-f.ensures _ _ c.loop-q.invariant c.loop-q-test.true _ c.from-q-in-loop-q.ensures _ c.mark.ensures

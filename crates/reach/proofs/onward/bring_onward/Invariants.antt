@@ -5,7 +5,7 @@ use Rattle.reach.proofs.Bringing.{OnwardBrought}
 use Rattle.reach.proofs.onward.bring_onward.Given as goal
 
 abbrev pub invariant-loop-q : goal.invariant-loop-q
-invariant-loop-q l = OnwardBrought l.kinds l.firsts l.p l.initial.marks l.initial.queue l.n l.marks l.queue l.f l.out l.q
+invariant-loop-q l = OnwardBrought l.steps.atoms l.p l.initial.work l.work l.f l.q
 
 abbrev pub decreases-loop-q : goal.decreases-loop-q
-decreases-loop-q l = length l.kinds - l.q
+decreases-loop-q l = length l.steps.atoms.kinds.now - l.q

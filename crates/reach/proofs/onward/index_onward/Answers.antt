@@ -1,13 +1,10 @@
--- The atoms from q on are indexed, and q falls.
-use Rattle.reach.proofs.Indexing.{atom_indexes}
-use borrow.Author.Rules.{rules}
+-- The index knows no atom yet, and takes one more.
+use mathlib.Core.Path.{sym, ◌∙◌}
+use Rattle.reach.proofs.Indexing.{atoms_start, atoms_more}
 use Rattle.reach.proofs.onward.index_onward.Goals as goal
 
 pub loop-q-init : goal.loop-q-init
-loop-q-init c = search (rules, atom_indexes)
+loop-q-init c = atoms_start _ _ _ c.requires
 
-pub enter-requires : goal.enter-requires
-enter-requires c = search (rules, atom_indexes)
-
-pub returns : goal.returns
-returns c = search (rules, atom_indexes)
+pub loop-q-preserved-then-f-lt512 : goal.loop-q-preserved-then-f-lt512
+loop-q-preserved-then-f-lt512 c = rw (c.put.ensures.firsts, c.put.ensures.nexts) (atoms_more _ _ _ _ c.requires.columns c.loop-q.invariant c.loop-q-test.true _ c.from-f.ensures (sym c.is_onward.ensures ∙ c.if-is_onward.true) c.if-f-lt512.true)
