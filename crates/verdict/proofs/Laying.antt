@@ -1,10 +1,10 @@
--- Laws of the arrays of a decoded table: the parts in use, and that they hold the game.
+-- Laws of the arrays of a decoded table: the parts in use hold the game.
 use mathlib.Core.Path.{◌≡◌, refl, sym, ap, subst, ◌∙◌}
 use mathlib.Core.List.Memᴰ
 use mathlib.Core.List.{List, [], ◌∷◌, ◌++◌, map, Memᴰ}
 use Prim.Native.Nat.{ℕ, suc, ◌+◌, ◌≤◌, ◌<◌}
 use native.Mathlib.Omega.{arith}
-use native.Mathlib.Nat.{add-zero, sub-zero}
+use native.Mathlib.Nat.{add-zero}
 use lib.ListN.{length, get_or, take, drop, length-map, length-append, length-replicate}
 use lib.Seq.{sets, sets-eq, length-sets, take-append_seam, get_or-take}
 use Rattle.gdl.specs.Game.{Atom, Clause, Game}
@@ -13,13 +13,15 @@ use Rattle.gdl.specs.Layout.{code_of, kinds_of, firsts_of, seconds_of, heads_of,
 use Rattle.gdl.proofs.Layouts.{owners_long, starts_long_lem}
 use Rattle.gdl.specs.Layout as T
 use Rattle.rules.specs.Limits.{Limits, first_end}
-use Rattle.rules.specs.Verdict.{Verdict}
-use Rattle.judge.specs.Judgement.{Held, HoldsGame, Judges}
-use Rattle.judge.specs.declared.Judgement.{Judgement}
+use Rattle.judge.specs.Judgement as J
+use Rattle.gdl.specs.declared.arrays.AtomArrays.{AtomArrays}
+use Rattle.gdl.specs.declared.arrays.ClauseArrays.{ClauseArrays}
+use Rattle.table.specs.declared.header.Header.{Header}
+use Rattle.table.specs.declared.tables.Arrays.{Arrays}
+use Rattle.table.specs.declared.tables.Read.{Read}
 use Rattle.truth.specs.Promise.{Ready}
 use Rattle.reach.specs.Promise as R
-use Rattle.verdict.specs.Consulted.{cut}
-use Rattle.verdict.specs.Laid.{Laid, LaidToJudge, LaidToModel, Judgeable, Modelable, Traceable}
+use Rattle.verdict.specs.Laid.{Laid, AtomsUsed, ClausesUsed}
 
 -- the part in use of a room
 pub part_used : (n : ℕ) (xs : List ℕ) → length xs ≤ n → take (length xs) (sets (blank n) 0 xs) ≡ xs
@@ -32,116 +34,6 @@ room_long n xs = length-sets (blank n) 0 xs ∙ length-replicate {A = ℕ} n 0
 last_start : (i : ℕ) (C : List Clause) → get_or (starts_from i C) (length C) 0 ≡ i + length (literals_of C)
 last_start i [] = sym (add-zero i)
 last_start i (c ∷ C) = last_start (i + length c.body) C ∙ (let e : length (map code_of c.body ++ literals_of C) ≡ length c.body + length (literals_of C) = rw (length-append, length-map) refl in omega arith)
-
-module _ {kinds firsts heads starts literals : List ℕ} {atoms many : ℕ} {G : Game} (h : Laid kinds firsts heads starts literals atoms many G) where
-  pub record Parts : Type 0 where
-    pub kinds_part : take atoms kinds ≡ kinds_of G.atoms
-    pub firsts_part : take atoms firsts ≡ firsts_of G.atoms
-    pub heads_part : take many heads ≡ heads_of G.clauses
-    pub starts_part : take (many + 1) starts ≡ starts_from 0 G.clauses
-    pub used : get_or starts many 0 ≡ length (literals_of G.clauses)
-    pub literals_part : take (get_or starts many 0) literals ≡ literals_of G.clauses
-    pub kinds_long : length kinds ≡ 1024
-    pub firsts_long : length firsts ≡ 1024
-    pub heads_long : length heads ≡ 2048
-    pub starts_long_lem : length starts ≡ 2049
-    pub literals_long : length literals ≡ 8192
-
-  pub parts : Parts
-  parts = record {
-    kinds_part = rw (h.kinds_are, h.atoms_are, ← k) (part_used 1024 (kinds_of G.atoms) (omega (arith, k, h.limits.atoms)));
-    firsts_part = rw (h.firsts_are, h.atoms_are, ← f) (part_used 1024 (firsts_of G.atoms) (omega (arith, f, h.limits.atoms)));
-    heads_part = rw (h.heads_are, h.many_are, ← d) (part_used 2048 (heads_of G.clauses) (omega (arith, d, h.limits.clauses)));
-    starts_part = starts_part;
-    used = used;
-    literals_part = rw (used, h.literals_are) (part_used 8192 (literals_of G.clauses) h.limits.literals);
-    kinds_long = rw h.kinds_are (room_long 1024 (kinds_of G.atoms));
-    firsts_long = rw h.firsts_are (room_long 1024 (firsts_of G.atoms));
-    heads_long = rw h.heads_are (room_long 2048 (heads_of G.clauses));
-    starts_long_lem = rw h.starts_are (room_long 2049 (starts_from 0 G.clauses));
-    literals_long = rw h.literals_are (room_long 8192 (literals_of G.clauses));
-  }
-    where
-      k : length (kinds_of G.atoms) ≡ length G.atoms
-      k = length-map G.atoms (λ a. a.kind)
-
-      f : length (firsts_of G.atoms) ≡ length G.atoms
-      f = length-map G.atoms (λ a. a.first)
-
-      d : length (heads_of G.clauses) ≡ length G.clauses
-      d = length-map G.clauses (λ c. c.head)
-
-      s : length (starts_from 0 G.clauses) ≡ length G.clauses + 1
-      s = starts_long_lem 0 G.clauses ∙ omega arith
-
-      starts_part : take (many + 1) starts ≡ starts_from 0 G.clauses
-      starts_part = rw (h.starts_are, h.many_are, ← s) (part_used 2049 (starts_from 0 G.clauses) (omega (arith, s, h.limits.clauses)))
-
-      used : get_or starts many 0 ≡ length (literals_of G.clauses)
-      used = sym (get_or-take (many + 1) starts many 0 (omega arith)) ∙ (ap (λ (l : List ℕ). get_or l many 0) starts_part ∙ rw h.many_are (last_start 0 G.clauses ∙ omega arith))
-
-  -- the parts lie in the arrays
-  pub record Ends : Type 0 where
-    pub kinds_end : atoms ≤ length kinds
-    pub firsts_end : atoms ≤ length firsts
-    pub heads_end : many ≤ length heads
-    pub starts_end : many + 1 ≤ length starts
-    pub literals_end : get_or starts many 0 ≤ length literals
-    pub small : get_or starts many 0 ≤ 8192
-
-  pub ends : Ends
-  ends =
-      let l = h.limits in
-      record {
-        kinds_end = omega (arith, parts.kinds_long, h.atoms_are, l.atoms);
-        firsts_end = omega (arith, parts.firsts_long, h.atoms_are, l.atoms);
-        heads_end = omega (arith, parts.heads_long, h.many_are, l.clauses);
-        starts_end = omega (arith, parts.starts_long_lem, h.many_are, l.clauses);
-        literals_end = omega (arith, parts.literals_long, parts.used, l.literals);
-        small = omega (arith, parts.used, l.literals);
-      }
-
-module _ {kinds firsts heads starts literals owners : List ℕ} {atoms many seats : ℕ} where
-  -- the part of the owners in use, and how long the room is
-  owners_part : {G : Game} → LaidToJudge kinds firsts heads starts literals owners atoms many seats G → take (get_or starts many 0) owners ≡ owners_of G.clauses
-  owners_part {G} h = rw ((parts h.laid).used, h.owners_are, ← (owners_long G.clauses)) (part_used 8192 (owners_of G.clauses) (omega (arith, owners_long G.clauses, h.laid.limits.literals)))
-
-  pub held_part : {G : Game} → LaidToJudge kinds firsts heads starts literals owners atoms many seats G
-      → Held (cut atoms kinds) (cut atoms firsts) (cut many heads) (cut (many + 1) starts) (cut (get_or starts many 0) literals) (cut (get_or starts many 0) owners) seats G
-  held_part h =
-      let p = parts h.laid in
-      record {
-        limits = h.laid.limits;
-        kinds_are = rw sub-zero p.kinds_part;
-        firsts_are = rw sub-zero p.firsts_part;
-        heads_are = rw sub-zero p.heads_part;
-        starts_are = rw sub-zero p.starts_part;
-        literals_are = rw sub-zero p.literals_part;
-        owners_are = rw sub-zero (owners_part h);
-        seats_are = h.seats_are;
-      }
-
-  module _ (j : Judgeable kinds firsts heads starts literals owners atoms many seats) where
-    pub owners_end : get_or starts many 0 ≤ length owners
-    owners_end =
-        let o : length owners ≡ 8192 = rw j.held.owners_are (room_long 8192 (owners_of j.game.clauses)) in
-        omega (arith, (ends j.held.laid).small)
-
-    pub holds_part : HoldsGame (cut atoms kinds) (cut atoms firsts) (cut many heads) (cut (many + 1) starts) (cut (get_or starts many 0) literals) (cut (get_or starts many 0) owners) seats
-    holds_part = record { game = j.game; held = held_part j.held }
-
-  -- the answer on the parts in use is that on the arrays
-  pub judges_part : {r : Judgement} {v : List ℕ} {R : Game → Verdict → Type 0}
-      → Judges (Held (cut atoms kinds) (cut atoms firsts) (cut many heads) (cut (many + 1) starts) (cut (get_or starts many 0) literals) (cut (get_or starts many 0) owners) seats) R r v
-      → Judges (LaidToJudge kinds firsts heads starts literals owners atoms many seats) R r v
-  judges_part a = record {
-    ruled = λ G h. a.ruled G (held_part h);
-    levels = λ e G h. a.levels e G (held_part h);
-    blank_levels = λ n G h. a.blank_levels n G (held_part h);
-    blank_top = a.blank_top;
-  }
-
--- ---- the model
 
 -- a law of the atoms by their numbers is one of each atom
 each_atom : (P : Atom → Type 0) (d : Atom) (l : List Atom) → ((p : ℕ) → p < length l → P (get_or l p d)) → (a : Atom) → Memᴰ a l → P a
@@ -163,46 +55,86 @@ small_game {G} l = record {
     first : (a : Atom) → Memᴰ a G.atoms → a.first < first_end G a.kind
     first = each_atom (λ a. a.first < first_end G a.kind) _ G.atoms l.firsts
 
-module _ {kinds firsts seconds heads starts literals : List ℕ} {atoms many : ℕ} where
-  pub held_model : {G : Game} → LaidToModel kinds firsts seconds heads starts literals atoms many G
-      → T.Held G (cut atoms kinds) (cut atoms firsts) (cut atoms seconds) (cut many heads) (cut (many + 1) starts) (cut (get_or starts many 0) literals)
-  held_model {G} h =
-      let p = parts h.laid in
-      record {
-        is_kinds = rw sub-zero p.kinds_part;
-        is_firsts = rw sub-zero p.firsts_part;
-        is_seconds = rw (sub-zero, h.seconds_are, h.laid.atoms_are, ← s) (part_used 1024 (seconds_of G.atoms) (omega (arith, s, h.laid.limits.atoms)));
-        is_heads = rw sub-zero p.heads_part;
-        is_starts = rw sub-zero p.starts_part;
-        is_literals = rw sub-zero p.literals_part;
-      }
-    where
-      s : length (seconds_of G.atoms) ≡ length G.atoms
-      s = length-map G.atoms (λ a. a.second)
+module _ {r : Read} {a : Arrays} {G : Game} (h : Laid r a G) where
+  atoms_are : r.header.sizes.atoms ≡ length G.atoms
+  atoms_are = ap (λ (x : Header). x.sizes.atoms) h.header_is
 
-  module _ {levels : List ℕ} {top : ℕ} (m : Modelable kinds firsts seconds heads starts literals levels top atoms many) where
-    pub seconds_end : atoms ≤ length seconds
-    seconds_end =
-        let s : length seconds ≡ 1024 = rw m.held.seconds_are (room_long 1024 (seconds_of m.game.atoms)) in
-        omega (arith, m.held.laid.atoms_are, m.held.laid.limits.atoms)
+  column : (f : Atom → ℕ) (room : List ℕ) → room ≡ sets (blank 1024) 0 (map f G.atoms) → take r.header.sizes.atoms room ≡ map f G.atoms
+  column f room e = let n : length (map f G.atoms) ≡ length G.atoms = length-map G.atoms f in rw (e, atoms_are, ← n) (part_used 1024 (map f G.atoms) (omega (arith, n, h.limits.atoms)))
 
-    pub model_ready : Ready (cut atoms kinds) (cut atoms firsts) (cut atoms seconds) (cut many heads) (cut (many + 1) starts) (cut (get_or starts many 0) literals) levels top
-    model_ready = record {
-      game = m.game;
-      held = held_model m.held;
-      small = small_game m.held.laid.limits;
-      allowed = m.levelled.least.allowed;
-      below = λ c k. m.levelled.top_is.above c.head (m.held.laid.limits.heads c k);
+  heads_part : take r.clauses a.clauses.heads ≡ heads_of G.clauses
+  heads_part = let n : length (heads_of G.clauses) ≡ length G.clauses = length-map G.clauses (λ c. c.head) in rw (h.heads_are, h.clauses_are, ← n) (part_used 2048 (heads_of G.clauses) (omega (arith, n, h.limits.clauses)))
+
+  starts_part : take (r.clauses + 1) a.clauses.starts ≡ starts_from 0 G.clauses
+  starts_part =
+      let n : length (starts_from 0 G.clauses) ≡ length G.clauses + 1 = starts_long_lem 0 G.clauses ∙ omega arith in
+      rw (h.starts_are, h.clauses_are, ← n) (part_used 2049 (starts_from 0 G.clauses) (omega (arith, n, h.limits.clauses)))
+
+  -- the literals end where the clause after the last would start
+  used : get_or a.clauses.starts r.clauses 0 ≡ length (literals_of G.clauses)
+  used = sym (get_or-take (r.clauses + 1) a.clauses.starts r.clauses 0 (omega arith)) ∙ (ap (λ (l : List ℕ). get_or l r.clauses 0) starts_part ∙ rw h.clauses_are (last_start 0 G.clauses ∙ omega arith))
+
+  literals_part : take (get_or a.clauses.starts r.clauses 0) a.clauses.literals ≡ literals_of G.clauses
+  literals_part = rw (used, h.literals_are) (part_used 8192 (literals_of G.clauses) h.limits.literals)
+
+  -- the parts lie in the arrays
+  pub record Ends : Type 0 where
+    pub atoms_end : r.header.sizes.atoms ≤ 1024
+    pub clauses_end : (r.clauses ≤ 2048) × (get_or a.clauses.starts r.clauses 0 ≤ 8192)
+
+  pub ends : Ends
+  ends = record {
+    atoms_end = omega (arith, atoms_are, h.limits.atoms);
+    clauses_end = (omega (arith, h.clauses_are, h.limits.clauses), omega (arith, used, h.limits.literals));
+  }
+
+  module _ {x : AtomArrays} {y : ClauseArrays} (ux : AtomsUsed r.header.sizes.atoms a.atoms x) (uy : ClausesUsed r.clauses a.clauses y) where
+    literals_held : y.literals.now ≡ literals_of G.clauses
+    literals_held = uy.literals_are ∙ literals_part
+
+    -- the literals' owners are as many as the literals
+    pub owners_end : length y.literals.now ≤ 8192
+    owners_end = rw literals_held h.limits.literals
+
+    pub held_judge : (owners : List ℕ) → owners ≡ take (length y.literals.now) a.clauses.owners → J.Held x y owners r.header.players.seats G
+    held_judge owners e = record {
+      limits = h.limits;
+      kinds_are = ux.kinds_are ∙ column (λ b. b.kind) a.atoms.kinds h.kinds_are;
+      firsts_are = ux.firsts_are ∙ column (λ b. b.first) a.atoms.firsts h.firsts_are;
+      heads_are = uy.heads_are ∙ heads_part;
+      starts_are = uy.starts_are ∙ starts_part;
+      literals_are = literals_held;
+      owners_are = e ∙ rw (literals_held, h.owners_are, ← (owners_long G.clauses)) (part_used 8192 (owners_of G.clauses) (omega (arith, owners_long G.clauses, h.limits.literals)));
+      seats_are = ap (λ (k : Header). k.players.seats) h.header_is;
     }
 
--- ---- reach
+    pub held_model : T.Held G x.kinds.now x.firsts.now x.seconds.now y.heads.now y.starts.now y.literals.now
+    held_model = record {
+      is_kinds = ux.kinds_are ∙ column (λ b. b.kind) a.atoms.kinds h.kinds_are;
+      is_firsts = ux.firsts_are ∙ column (λ b. b.first) a.atoms.firsts h.firsts_are;
+      is_seconds = ux.seconds_are ∙ column (λ b. b.second) a.atoms.seconds h.seconds_are;
+      is_heads = uy.heads_are ∙ heads_part;
+      is_starts = uy.starts_are ∙ starts_part;
+      is_literals = literals_held;
+    }
 
-module _ {kinds firsts heads starts literals : List ℕ} {atoms many : ℕ} where
-  pub held_trace : {G : Game} → Laid kinds firsts heads starts literals atoms many G
-      → R.Laid G (cut atoms kinds) (cut atoms firsts) (cut many heads) (cut (many + 1) starts) (cut (get_or starts many 0) literals)
-  held_trace h =
-      let p = parts h in
-      record { is_kinds = rw sub-zero p.kinds_part; is_firsts = rw sub-zero p.firsts_part; is_heads = rw sub-zero p.heads_part; is_starts = rw sub-zero p.starts_part; is_literals = rw sub-zero p.literals_part }
+    pub held_trace : R.Laid G x y
+    held_trace = record {
+      is_kinds = ux.kinds_are ∙ column (λ b. b.kind) a.atoms.kinds h.kinds_are;
+      is_firsts = ux.firsts_are ∙ column (λ b. b.first) a.atoms.firsts h.firsts_are;
+      is_heads = uy.heads_are ∙ heads_part;
+      is_starts = uy.starts_are ∙ starts_part;
+      is_literals = literals_held;
+    }
 
-  pub trace_ready : Traceable kinds firsts heads starts literals atoms many → R.Ready (cut atoms kinds) (cut atoms firsts) (cut many heads) (cut (many + 1) starts) (cut (get_or starts many 0) literals)
-  trace_ready t = record { game = t.game; laid = held_trace t.held; small = small_game t.held.limits }
+    pub model_ready : {levels : List ℕ} {top : ℕ} → J.Levelled G levels top → Ready x.kinds.now x.firsts.now x.seconds.now y.heads.now y.starts.now y.literals.now levels top
+    model_ready l = record {
+      game = G;
+      held = held_model;
+      small = small_game h.limits;
+      allowed = l.least.allowed;
+      below = λ c k. l.top_is.above c.head (h.limits.heads c k);
+    }
+
+    pub trace_ready : R.Ready x y
+    trace_ready = record { game = G; laid = held_trace; small = small_game h.limits }
