@@ -1,7 +1,7 @@
 // The tables of the examples. Each begins with version, claim, seats, chance seat, fluents, moves and percepts, and the count of atoms.
 
 // One seat with its role fact, and nothing else.
-pub const SMALLEST: [u8; 13] = [
+pub const SMALLEST: &[u8] = &[
     0x01, 0x00, 0x01, 0x00, 0x00, 0x01, 0x00, 0x01, // header
     0x01, 0x00, // 0: role(0)
     0x01, // one clause
@@ -9,7 +9,7 @@ pub const SMALLEST: [u8; 13] = [
 ];
 
 // The same "with one byte more".
-pub const ONE_BYTE_MORE: [u8; 14] = [
+pub const ONE_BYTE_MORE: &[u8] = &[
     0x01, 0x00, 0x01, 0x00, 0x00, 0x01, 0x00, 0x01, // header
     0x01, 0x00, // 0: role(0)
     0x01, // one clause
@@ -18,7 +18,7 @@ pub const ONE_BYTE_MORE: [u8; 14] = [
 ];
 
 // "A plain atom p with only p if not p".
-pub const P_IF_NOT_P: [u8; 19] = [
+pub const P_IF_NOT_P: &[u8] = &[
     0x01, 0x00, 0x01, 0x00, 0x00, 0x01, 0x00, 0x02, // header
     0x00, 0x00, 0x00, // 0: p
     0x01, 0x00, // 1: role(0)
@@ -28,7 +28,7 @@ pub const P_IF_NOT_P: [u8; 19] = [
 ];
 
 // "Only p if p".
-pub const P_IF_P: [u8; 19] = [
+pub const P_IF_P: &[u8] = &[
     0x01, 0x00, 0x01, 0x00, 0x00, 0x01, 0x00, 0x02, // header
     0x00, 0x00, 0x00, // 0: p
     0x01, 0x00, // 1: role(0)
@@ -38,7 +38,7 @@ pub const P_IF_P: [u8; 19] = [
 ];
 
 // "p and q of different relations, q if q; p if not q".
-pub const P_IF_NOT_Q: [u8; 25] = [
+pub const P_IF_NOT_Q: &[u8] = &[
     0x01, 0x00, 0x01, 0x00, 0x00, 0x01, 0x00, 0x03, // header
     0x00, 0x00, 0x00, // 0: p
     0x00, 0x01, 0x00, // 1: q
@@ -50,7 +50,7 @@ pub const P_IF_NOT_Q: [u8; 25] = [
 ];
 
 // "A legal atom with not p, and p if does".
-pub const LEGAL_BY_DOES: [u8; 28] = [
+pub const LEGAL_BY_DOES: &[u8] = &[
     0x01, 0x00, 0x01, 0x00, 0x00, 0x01, 0x00, 0x04, // header
     0x00, 0x00, 0x00, // 0: p
     0x01, 0x00, // 1: role(0)
@@ -63,7 +63,7 @@ pub const LEGAL_BY_DOES: [u8; 28] = [
 ];
 
 // "The penny table: R 2, no chance seat, F 2, M 2, P 1."
-pub const PENNY: [u8; 98] = [
+pub const PENNY: &[u8] = &[
     0x01, 0x00, 0x02, 0x00, 0x02, 0x02, 0x01, 0x13, // header
     0x01, 0x00, // 0: role(0)
     0x01, 0x01, // 1: role(1)

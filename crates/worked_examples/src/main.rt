@@ -11,121 +11,98 @@ use std::io::Write;
 use tables::{is_accepted, is_flagged, is_numbered, is_refused};
 
 // Writes an example and whether it came out right. That a write fails changes nothing.
-fn tell<W: Write>(output: &mut W, example: &[u8], right: bool) {
-    let _ = output.write_all(example);
-    if right {
-        let _ = output.write_all(b": ok\n");
-    } else {
-        let _ = output.write_all(b": NOT ok\n");
-    }
-}
-
-// Two statements of one example.
-fn both(first: bool, second: bool) -> bool {
-    if first {
-        return second;
-    }
-    false
+fn tell<W: Write>(output: &mut W, example: &str, right: bool) {
+    let answer = if right { "ok" } else { "NOT ok" };
+    let _ = writeln!(output, "{example}: {answer}");
 }
 
 fn numbers<W: Write>(output: &mut W) {
     tell(
         output,
-        b"1. (P) Empty input: 1, place 0",
+        "1. (P) Empty input: 1, place 0",
         is_refused(b"", 1, 0),
     );
     tell(
         output,
-        b"2. (P) 80 00: 2, place 0",
+        "2. (P) 80 00: 2, place 0",
         is_refused(b"\x80\x00", 2, 0),
     );
     tell(
         output,
-        b"3. (P) FF FF: 1, place 0",
+        "3. (P) FF FF: 1, place 0",
         is_refused(b"\xff\xff", 1, 0),
     );
     tell(
         output,
-        b"4. (P) 80 80 04: 2, place 0",
+        "4. (P) 80 80 04: 2, place 0",
         is_refused(b"\x80\x80\x04", 2, 0),
     );
-    tell(output, b"5. (P) 02: 3, place 0", is_refused(b"\x02", 3, 0));
+    tell(output, "5. (P) 02: 3, place 0", is_refused(b"\x02", 3, 0));
 }
 
 // "accepted; one seat, never over. With one byte more: 5, place 13."
 fn smallest<W: Write>(output: &mut W) {
-    let table = SMALLEST;
-    let longer = ONE_BYTE_MORE;
-    let plays = reads(&table, opened(&table), 0, b"\x00\x00\x00\x00\x00\x00");
+    let plays = reads(SMALLEST, opened(SMALLEST), 0, b"\x00\x00\x00\x00\x00\x00");
     tell(
         output,
-        b"6. (P) One seat, never over: accepted",
-        both(is_accepted(&table), plays),
+        "6. (P) One seat, never over: accepted",
+        is_accepted(SMALLEST) && plays,
     );
     tell(
         output,
-        b"6. (P) With one byte more: 5, place 13",
-        is_refused(&longer, 5, 13),
+        "6. (P) With one byte more: 5, place 13",
+        is_refused(ONE_BYTE_MORE, 5, 13),
     );
 }
 
 fn atoms<W: Write>(output: &mut W) {
-    let seven = P_IF_NOT_P;
-    let eight = P_IF_P;
-    let nine = P_IF_NOT_Q;
-    let ten = LEGAL_BY_DOES;
     tell(
         output,
-        b"7. (P) Only p if not p: 11",
-        is_numbered(&seven, 11),
+        "7. (P) Only p if not p: 11",
+        is_numbered(P_IF_NOT_P, 11),
     );
     tell(
         output,
-        b"8. (P) Only p if p: accepted, p false",
-        both(is_accepted(&eight), is_flagged(&eight, 0, 0)),
+        "8. (P) Only p if p: accepted, p false",
+        is_accepted(P_IF_P) && is_flagged(P_IF_P, 0, 0),
     );
     tell(
         output,
-        b"9. (P) q if q; p if not q: p true",
-        is_flagged(&nine, 0, 1),
+        "9. (P) q if q; p if not q: p true",
+        is_flagged(P_IF_NOT_Q, 0, 1),
     );
     tell(
         output,
-        b"10. A legal atom with not p, and p if does: 10",
-        is_numbered(&ten, 10),
+        "10. A legal atom with not p, and p if does: 10",
+        is_numbered(LEGAL_BY_DOES, 10),
     );
 }
 
 fn penny<W: Write>(output: &mut W) {
-    let table = PENNY;
-    let start = opened(&table);
-    let equal = played(&table, 0, 0);
-    let other = played(&table, 1, 0);
-    let won = reads(&table, equal, 0, b"\x00\x01\x01\x01\x00\x00\x01\x64");
-    let lost = reads(&table, other, 0, b"\x00\x01\x01\x01\x00\x00\x01\x00");
+    let equal = played(PENNY, 0, 0);
+    let other = played(PENNY, 1, 0);
+    let won = reads(PENNY, equal, 0, b"\x00\x01\x01\x01\x00\x00\x01\x64");
+    let lost = reads(PENNY, other, 0, b"\x00\x01\x01\x01\x00\x00\x01\x00");
     let second = b"\x01\x01\x01\x00\x00\x01\x32";
     tell(
         output,
-        b"11. (P) Open: seat 0 reads 00 00 00 00 02 00 01 00",
-        reads(&table, start, 0, b"\x00\x00\x00\x00\x02\x00\x01\x00"),
+        "11. (P) Open: seat 0 reads 00 00 00 00 02 00 01 00",
+        reads(PENNY, opened(PENNY), 0, b"\x00\x00\x00\x00\x02\x00\x01\x00"),
     );
     tell(
         output,
-        b"12. (P) Both play 0: seat 0 reads 00 01 01 01 00 00 01 64, seat 1 reads 01 01 01 00 00 01 32",
-        both(won, reads(&table, equal, 1, second)),
+        "12. (P) Both play 0: seat 0 reads 00 01 01 01 00 00 01 64, seat 1 reads 01 01 01 00 00 01 32",
+        won && reads(PENNY, equal, 1, second),
     );
     tell(
         output,
-        b"13. (P) Seat 0 plays 1, seat 1 plays 0: seat 0 reads 00 01 01 01 00 00 01 00, seat 1 as in 12",
-        both(lost, reads(&table, other, 1, second)),
+        "13. (P) Seat 0 plays 1, seat 1 plays 0: seat 0 reads 00 01 01 01 00 00 01 00, seat 1 as in 12",
+        lost && reads(PENNY, other, 1, second),
     );
     tell(
         output,
-        b"14. (P) Seat 0's moves are hidden from seat 1; seat 1's are not hidden from seat 0",
-        both(
-            answers_for_both(&table, 1, 0, 1),
-            answers_for_both(&table, 0, 1, 0),
-        ),
+        "14. (P) Seat 0's moves are hidden from seat 1; seat 1's are not hidden from seat 0",
+        answers_for_both(PENNY, 1, 0, 1) && answers_for_both(PENNY, 0, 1, 0),
     );
 }
 

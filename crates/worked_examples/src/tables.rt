@@ -1,5 +1,5 @@
 // What the check and the model say of a table.
-use refusals::{number_of, place_of};
+use refusals::{Refusal, number_of, place_of};
 
 // Whether the check gives this number.
 pub fn is_numbered(table: &[u8], number: u8) -> bool {
@@ -9,10 +9,7 @@ pub fn is_numbered(table: &[u8], number: u8) -> bool {
 // Whether the check gives this number and place.
 pub fn is_refused(table: &[u8], number: u8, place: usize) -> bool {
     let refusal = referee::check(table);
-    if number_of(refusal) != number {
-        return false;
-    }
-    place_of(refusal) == place
+    number_of(refusal) == number && place_of(refusal) == place
 }
 
 pub fn is_accepted(table: &[u8]) -> bool {
@@ -22,12 +19,6 @@ pub fn is_accepted(table: &[u8]) -> bool {
 // Whether an atom of an accepted table has this flag in the model of the empty position without moves.
 pub fn is_flagged(table: &[u8], atom: usize, flag: u8) -> bool {
     let mut room = [255u8; 1024];
-    let refusal = referee::model(table, [0; 512], [0; 8], &mut room);
-    if number_of(refusal) != 0 {
-        return false;
-    }
-    if 1024 <= atom {
-        return false;
-    }
-    room[atom] == flag
+    referee::model(table, [0; 512], [0; 8], &mut room) == Refusal::Success
+        && room.get(atom) == Some(&flag)
 }
