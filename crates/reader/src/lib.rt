@@ -38,27 +38,29 @@ pub fn step(table: &[u8], at: usize) -> Found
     Found { number, next }
 }
 
-// A reader of a lent table, at a place.
-pub fn start<'a>(table: &'a [u8], at: usize) -> Reader<'a>
-    ensures { result ≡ reader_at table.entry at }
-{
-    Reader { table, at }
-}
+impl<'a> Reader<'a> {
+    // A reader of a lent table, at a place.
+    pub fn start(table: &'a [u8], at: usize) -> Reader<'a>
+        ensures { result ≡ reader_at table.entry at }
+    {
+        Reader { table, at }
+    }
 
-// Reads the number at the reader's place, and moves the reader on.
-pub fn next<'s, 'a>(reader: &'s mut Reader<'a>) -> Result<Item, Fault>
-    ensures { (result, reader.new) ≡ read_next reader.old }
-{
-    let found = step(reader.table, reader.at);
-    reader.at = found.next;
-    found.number
-}
+    // Reads the number at the reader's place, and moves the reader on.
+    pub fn next(&mut self) -> Result<Item, Fault>
+        ensures { (result, self.new) ≡ read_next self.old }
+    {
+        let found = step(self.table, self.at);
+        self.at = found.next;
+        found.number
+    }
 
-// Where the reader stands.
-pub fn place<'a>(reader: Reader<'a>) -> usize
-    ensures { result ≡ reader.entry.at }
-{
-    reader.at
+    // Where the reader stands.
+    pub fn place(self) -> usize
+        ensures { result ≡ self.entry.at }
+    {
+        self.at
+    }
 }
 
 // How a clause record begins: the numbers of its head and of its count of literals, and the place where the literals start.
@@ -73,10 +75,10 @@ pub struct ClauseStart {
 pub fn clause_start(table: &[u8], at: usize) -> ClauseStart
     ensures { result ≡ clause_start table.now at }
 {
-    let mut reader = start(table, at);
-    let head = next(&mut reader);
-    let count = next(&mut reader);
-    let literals = place(reader);
+    let mut reader = Reader::start(table, at);
+    let head = reader.next();
+    let count = reader.next();
+    let literals = reader.place();
     ClauseStart {
         head,
         count,
