@@ -16,17 +16,14 @@ use Rattle.gdl.specs.Graph.{itself, Depends}
 use Rattle.gdl.proofs.Tests.{and_left, and_right, and_both, eq→eqb}
 use Rattle.edges.specs.Graph.{Drawn}
 use Rattle.edges.specs.Closure.{ClosedBack}
-use Rattle.edges.specs.Marks.{no_marks, Seeded}
+use Rattle.edges.specs.Queue.{no_marks, Seeded}
 use Rattle.edges.proofs.Drawing.{clauses_drawn}
 use Rattle.edges.proofs.Depending.{OnSeed, closed_back}
 use Rattle.rules.specs.Rules.{one_of, Leans}
-use Rattle.judge.specs.Answers.{Tested, Tells}
-use Rattle.judge.specs.Arrays.{Sown, HeldEdges, EdgesShaped, EdgesIndexed, these_of, those_of, Rests, MarksOf, MarkAsked}
-use Rattle.judge.specs.declared.leaning.DependenceRule.{DependenceRule}
-use Rattle.judge.specs.declared.leaning.DependenceRule.TheVariants.{Init, Does}
+use Rattle.judge.specs.Arrays.{Sown, HeldEdges, EdgesShaped, Rests, MarksOf}
 use Rattle.rules.specs.Judged.{disjoint}
 use Rattle.rules.proofs.Finding.{apart}
-use Rattle.judge.proofs.Searching.{Bounded}
+use Rattle.rules.proofs.Judging.{Exact}
 use Rattle.judge.proofs.Holding.{kind_held}
 
 -- ---- seeds
@@ -77,14 +74,6 @@ module _ (kinds those : List ℕ) where
       flag true t = refl
       flag false t = absurd t
 
--- ---- marks
-
-pub mark_both : (b x y : Bool) → b ≡ x → b ≡ true → y ≡ (x && y)
-mark_both b x y e t = rw (← e, t)
-
-pub mark_none : (b x y : Bool) → b ≡ x → b ≡ false → false ≡ (x && y)
-mark_none b x y e f = rw (← e, f)
-
 -- ---- the edges of a game
 
 module _ (kinds owners literals : List ℕ) (G : Game) (h : HeldEdges kinds owners literals G) where
@@ -128,54 +117,27 @@ seeds_marked kinds owners literals those seeds marks a s c = record { rests = λ
       way = r.way;
     }
 
+pub ruleset marking = (sown_start, sown_more, sown_all, sown_seeded, seeds_marked)
+
 -- ---- an atom of these kinds that leans
 
-module _ (rule : DependenceRule) (kind : ℕ) (r : Bool) where
-  pub these_init : rule ≡ Init → r ≡ one_of (these_of Init) kind → r ≡ one_of (these_of rule) kind
-  these_init e t = rw e t
+-- the test of kinds and marks strikes exactly where the rule is broken: none of these kinds is one of those
+pub lean_told : (these those kinds owners literals marks : List ℕ) → T (disjoint these those) → MarksOf (HeldEdges kinds owners literals) those marks
+    → (G : Game) → HeldEdges kinds owners literals G → Exact (Leans these those G) (length kinds) (λ p. one_of these (get_or kinds p 0) && on marks p)
+lean_told these those kinds owners literals marks d m G h = record {
+  inside = λ p b. omega (arith, b.atom, kinds_many kinds owners literals G h);
+  strikes = λ p b. and_both (one_of these (get_or kinds p 0)) (on marks p) (subst (λ (k : ℕ). T (one_of these k)) (sym (kind_is p)) b.kind)
+      ((m.rests G h p).1 (record { on = b.on; atom = b.other; kind = b.other_kind; way = inr b.depends }));
+  broken = λ p lt t. found p lt (subst (λ (k : ℕ). T (one_of these k)) (kind_is p) (and_left (one_of these (get_or kinds p 0)) (on marks p) t))
+      ((m.rests G h p).0 (and_right (one_of these (get_or kinds p 0)) (on marks p) t));
+}
+  where
+    kind_is : (p : ℕ) → get_or kinds p 0 ≡ kind_of G p
+    kind_is p = kind_held G kinds h.kinds_are p
 
-  pub these_does : rule ≡ Does → r ≡ one_of (these_of Does) kind → r ≡ one_of (these_of rule) kind
-  these_does e t = rw e t
-
-  pub those_init : rule ≡ Init → r ≡ one_of (those_of Init) kind → r ≡ one_of (those_of rule) kind
-  those_init e t = rw e t
-
-  pub those_does : rule ≡ Does → r ≡ one_of (those_of Does) kind → r ≡ one_of (those_of rule) kind
-  those_does e t = rw e t
-
--- none of these kinds is one of those
-rule_apart : (rule : DependenceRule) → T (disjoint (these_of rule) (those_of rule))
-rule_apart Init = tt
-rule_apart Does = tt
-
-module _ (rule : DependenceRule) (kinds owners literals : List ℕ) where
-  pub leaning_atom : Bounded (HeldEdges kinds owners literals) (Leans (these_of rule) (those_of rule)) (length kinds)
-  leaning_atom = record { below = λ G h p b. omega (arith, b.atom, kinds_many kinds owners literals G h) }
-
-  module _ (first next : List ℕ) (a : EdgesIndexed kinds owners literals first next) (p : ℕ) (lt : p < length kinds) where
-    pub asked_mark : MarkAsked kinds p
-    asked_mark = record { kind = lt; mark = omega (arith, a.shaped.atoms) }
-
-    module _ (marks : List ℕ) (m : MarksOf (HeldEdges kinds owners literals) (those_of rule) marks) where
-      module _ (G : Game) (h : HeldEdges kinds owners literals G) where
-        kind_is : get_or kinds p 0 ≡ kind_of G p
-        kind_is = kind_held G kinds h.kinds_are p
-
-        found : T (one_of (these_of rule) (kind_of G p)) → Rests (those_of rule) G p → Leans (these_of rule) (those_of rule) G p
-        found t r = go r.way
-          where
-            go : (p ≡ r.on) ⊎ Depends itself G.clauses p r.on → Leans (these_of rule) (those_of rule) G p
-            go (inl e) = absurd (apart (these_of rule) (those_of rule) (rule_apart rule) (kind_of G p) t (subst (λ (q : ℕ). T (one_of (those_of rule) (kind_of G q))) (sym e) r.kind))
-            go (inr d) = record { atom = omega (arith, kinds_many kinds owners literals G h); kind = t; on = r.on; other = r.atom; other_kind = r.kind; depends = d }
-
-        told : (b : Bool) → b ≡ (one_of (these_of rule) (kind_of G p) && on marks p) → Tells (Leans (these_of rule) (those_of rule) G p) b
-        told true e =
-            let t = subst T e tt in
-            found (and_left (one_of (these_of rule) (kind_of G p)) (on marks p) t) ((m.rests G h p).0 (and_right (one_of (these_of rule) (kind_of G p)) (on marks p) t))
-        told false e = λ l. subst T (sym e) (and_both (one_of (these_of rule) (kind_of G p)) (on marks p) l.kind
-            ((m.rests G h p).1 (record { on = l.on; atom = l.other; kind = l.other_kind; way = inr l.depends })))
-
-      pub lean_tells : (b : Bool) → b ≡ (one_of (these_of rule) (get_or kinds p 0) && on marks p) → Tested (HeldEdges kinds owners literals) (Leans (these_of rule) (those_of rule)) p b
-      lean_tells b e = record { tells = λ G h. told G h b (e ∙ ap (λ (k : ℕ). one_of (these_of rule) k && on marks p) (kind_is G h)) }
-
-pub ruleset leaning = (these_init, these_does, those_init, those_does, sown_start, sown_more, sown_all, mark_both, mark_none, sown_seeded, seeds_marked, leaning_atom, asked_mark, lean_tells)
+    found : (p : ℕ) → p < length kinds → T (one_of these (kind_of G p)) → Rests those G p → Leans these those G p
+    found p lt t r = go r.way
+      where
+        go : (p ≡ r.on) ⊎ Depends itself G.clauses p r.on → Leans these those G p
+        go (inl e) = absurd (apart these those d (kind_of G p) t (subst (λ (q : ℕ). T (one_of those (kind_of G q))) (sym e) r.kind))
+        go (inr w) = record { atom = omega (arith, kinds_many kinds owners literals G h); kind = t; on = r.on; other = r.atom; other_kind = r.kind; depends = w }

@@ -7,34 +7,29 @@ use native.Mathlib.Nat.{not-suc-le-zero}
 use native.Mathlib.Omega.{arith}
 use lib.Dec.{T, ltb, ltb→lt}
 use lib.ListN.{length, get_or}
-use borrow.Author.Tests.{lt-ltb, le-ltb}
+use borrow.Author.Tests.{lt-ltb}
+use Rattle.std.specs.Prelude.{None}
 use borrow.Author.Count.{below_more}
 use Rattle.gdl.specs.Game.{Clause, Game, init_kind, next_kind, sees_kind, atom_of, clause_at}
+use Rattle.gdl.specs.declared.arrays.AtomArrays.{AtomArrays}
+use Rattle.gdl.specs.declared.arrays.ClauseArrays.{ClauseArrays}
 use Rattle.gdl.specs.Graph.{itself}
 use Rattle.gdl.specs.Layout.{code_of, owners_of}
 use Rattle.gdl.proofs.Tests.{and_left, and_right, and_both}
 use Rattle.edges.specs.Graph.{Has, end_of}
+use Rattle.edges.specs.Uses.{FirstEnd}
+use Rattle.edges.specs.declared.Edges.{Edges}
 use Rattle.edges.proofs.Drawing.{clauses_drawn}
 use Rattle.rules.specs.Rules.{one_of, BodyBroken}
 use Rattle.gdl.proofs.Layouts.{code_half, at_mem, mem_at}
 use Rattle.judge.specs.Answers.{Searched}
-use Rattle.judge.specs.Arrays.{HeldClauses, ClausesShaped, ClausesUsed, Misused, AnyMisused}
-use Rattle.judge.specs.declared.found.Found.TheVariants.{Nowhere}
+use Rattle.judge.specs.Arrays.{HeldUses, UsesAsked, Misused, AnyMisused}
 use Rattle.judge.proofs.Holding.{clauses_held, kind_held, head_held}
 
 abbrev bodyless : List ℕ
 bodyless = init_kind ∷ next_kind ∷ sees_kind ∷ []
 
--- ---- one atom
-
-module _ (first many w : ℕ) (e : w ≡ first) where
-  pub used_first : w < many → (b x : Bool) → b ≡ x → b ≡ (ltb first many && x)
-  used_first lt b x t = t ∙ rw (lt-ltb first many (omega arith))
-
-  pub unused_first : many ≤ w → (x : Bool) → false ≡ (ltb first many && x)
-  unused_first le x = rw (le-ltb first many (omega arith))
-
--- ---- all of them
+-- ---- the atoms
 
 -- none of the first p atoms is misused
 pub record Unused (kinds first : List ℕ) (many p : ℕ) : Type 0 where
@@ -66,35 +61,32 @@ module _ (kinds first : List ℕ) (many : ℕ) where
       tells = λ m. u.none m.atom (omega (arith, m.within)) (and_both (ltb (get_or first m.atom 0) many) (one_of bodyless (get_or kinds m.atom 0)) (rw (lt-ltb (get_or first m.atom 0) many m.used) tt) m.kind);
     }
 
+pub ruleset misusing = (unused_start, unused_more, unused_not, unused_all)
+
 -- ---- the rule
 
-module _ (kinds heads starts literals first : List ℕ) (a : ClausesUsed kinds heads starts literals first) where
-  pub used_shaped : ClausesShaped kinds heads starts literals
-  used_shaped = a.shaped
+module _ (a : AtomArrays) (c : ClauseArrays) (edges : Edges) (q : UsesAsked a c edges.from.now edges.to.now) where
+  firsts : (p : ℕ) → p < 1024 → FirstEnd edges.to.now p 0 (get_or edges.uses.now.first p 0)
+  firsts = edges.indexed.chained.firsts
 
-  pub used_few : length kinds ≤ 1024
-  used_few = a.atoms
-
-  pub none_misused : (b : Bool) → AnyMisused kinds first (length literals) b → b ≡ false → Searched (HeldClauses kinds heads starts literals) BodyBroken Nowhere
-  none_misused b m e = record { finds = λ G h q x. (subst (λ (y : Bool). AnyMisused kinds first (length literals) y) e m).tells (found G h q x) }
+  pub none_misused : AnyMisused a.kinds.now edges.uses.now.first (length edges.to.now) false → Searched (HeldUses a c edges.from.now edges.to.now) BodyBroken None
+  none_misused m = record { finds = λ G h p x. m.tells (found G h p x) }
     where
-      fit : (G : Game) → HeldClauses kinds heads starts literals G → (c : Clause) → Memᴰ c G.clauses → c.head < length kinds
-      fit G h c k =
-          let (i, lt, z) = mem_at (record { head = 0; body = [] }) G.clauses c k in
-          omega (arith, a.shaped.head_atoms i (omega (arith, clauses_held G kinds heads starts literals h, lt)), head_held G heads h.heads_are i, ap (λ (y : Clause). y.head) z)
+      fit : (G : Game) → HeldUses a c edges.from.now edges.to.now G → (k : Clause) → Memᴰ k G.clauses → k.head < length a.kinds.now
+      fit G h k m =
+          let (i, lt, z) = mem_at (record { head = 0; body = [] }) G.clauses k m in
+          omega (arith, q.shaped.head_atoms i (omega (arith, clauses_held G a c h.clauses, lt)), head_held G c.heads.now h.clauses.heads_are i, ap (λ (y : Clause). y.head) z)
 
-      found : (G : Game) → HeldClauses kinds heads starts literals G → (q : ℕ) → BodyBroken G q → Misused kinds first (length literals)
-      found G h q x =
-          let s : Has (owners_of G.clauses) literals (clause_at G q).head (code_of x.literal) =
-          subst (λ (y : List ℕ). Has (owners_of G.clauses) y (clause_at G q).head (code_of x.literal)) (sym h.literals_are)
-          ((clauses_drawn G.clauses (length kinds) (fit G h)).whole (clause_at G q) (at_mem _ G.clauses q x.clause) x.literal x.in_body) in
-          let z : end_of literals s.k ≡ atom_of x.literal = ap (λ (y : ℕ). y / 2) s.literal ∙ code_half itself x.literal in
-          let w : atom_of x.literal < length kinds = omega (arith, a.shaped.body_atoms.atoms s.k s.within, z) in
+      found : (G : Game) → HeldUses a c edges.from.now edges.to.now G → (p : ℕ) → BodyBroken G p → Misused a.kinds.now edges.uses.now.first (length edges.to.now)
+      found G h p x =
+          let s : Has (owners_of G.clauses) edges.to.now (clause_at G p).head (code_of x.literal) =
+          subst (λ (y : List ℕ). Has (owners_of G.clauses) y (clause_at G p).head (code_of x.literal)) (sym h.edges.literals_are)
+          ((clauses_drawn G.clauses (length a.kinds.now) (fit G h)).whole (clause_at G p) (at_mem _ G.clauses p x.clause) x.literal x.in_body) in
+          let z : end_of edges.to.now s.k ≡ atom_of x.literal = ap (λ (y : ℕ). y / 2) s.literal ∙ code_half itself x.literal in
+          let w : atom_of x.literal < length a.kinds.now = omega (arith, q.edges.graph.ends s.k s.within, z) in
           record {
             atom = atom_of x.literal;
             within = w;
-            kind = subst (λ (y : ℕ). T (one_of bodyless y)) (sym (kind_held G kinds h.kinds_are (atom_of x.literal))) x.kind;
-            used = omega (arith, (a.firsts (atom_of x.literal) (omega (arith, a.atoms))).lowest s.k (omega arith) s.within z, s.within);
+            kind = subst (λ (y : ℕ). T (one_of bodyless y)) (sym (kind_held G a.kinds.now h.clauses.kinds_are (atom_of x.literal))) x.kind;
+            used = omega (arith, (firsts (atom_of x.literal) (omega (arith, q.edges.atoms))).lowest s.k (omega arith) s.within z, s.within);
           }
-
-pub ruleset misusing = (used_first, unused_first, unused_start, unused_more, unused_not, unused_all, used_shaped, used_few, none_misused)

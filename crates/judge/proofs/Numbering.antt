@@ -12,8 +12,7 @@ use Rattle.gdl.specs.Flags.{blank}
 use Rattle.gdl.specs.Computed.{look}
 use Rattle.gdl.proofs.Levelling.{levels_no_cycle}
 use Rattle.levels.specs.Numbering.{Answers, Numbers, Asked}
-use Rattle.levels.specs.declared.Numbering.{Numbering}
-use Rattle.levels.specs.declared.Numbering.TheVariants.{Allowed, Refused}
+use Rattle.std.specs.Prelude.{Result, Ok, Err}
 use Rattle.rules.specs.Rules.{LevelsBroken}
 use Rattle.judge.specs.Arrays.{HeldEdges, EdgesShaped}
 use Rattle.judge.specs.Judgement.{Levelled, LevelsOr11, LevelsOf}
@@ -58,12 +57,12 @@ module _ (kinds owners literals : List ℕ) (s : EdgesShaped kinds owners litera
     atoms = omega (arith, part_long, s.atoms);
   }
 
-  pub levels_numbered : (v : List ℕ) (r : Numbering) → Numbers owners literals (take (length kinds - 0) old) v r → LevelsOf (HeldEdges kinds owners literals) r (v ++ drop (length kinds - 0) old)
+  pub levels_numbered : (v : List ℕ) (r : Result ℕ ℕ) → Numbers owners literals (take (length kinds - 0) old) v r → LevelsOf (HeldEdges kinds owners literals) r (v ++ drop (length kinds - 0) old)
   levels_numbered v r n = record { says = λ G h. rw e (go G h r (n.answers itself G.clauses (rw part_long (held_drawn kinds owners literals G h)))) }
     where
-      go : (G : Game) → HeldEdges kinds owners literals G → (r : Numbering) → Answers itself G.clauses v r → LevelsOr11 G r (v ++ drop (length kinds - 0) (blank 1024))
-      go G h (Refused p) a = (record { here = a.0.turns; lowest = a.0.lowest }, more_blank v (length kinds - 0) (n.long ∙ part_long ∙ sym zero_off) (omega (arith, s.atoms)) a.1)
-      go G h (Allowed top) a =
+      go : (G : Game) → HeldEdges kinds owners literals G → (r : Result ℕ ℕ) → Answers itself G.clauses v r → LevelsOr11 G r (v ++ drop (length kinds - 0) (blank 1024))
+      go G h (Err p) a = (record { here = a.0.turns; lowest = a.0.lowest }, more_blank v (length kinds - 0) (n.long ∙ part_long ∙ sym zero_off) (omega (arith, s.atoms)) a.1)
+      go G h (Ok top) a =
           let many : length v ≡ length G.atoms = n.long ∙ part_long ∙ kinds_many kinds owners literals G h in
           record {
             places = more_long v (length kinds - 0) (n.long ∙ part_long ∙ sym zero_off) (omega (arith, s.atoms));

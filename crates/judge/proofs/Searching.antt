@@ -1,74 +1,49 @@
--- Laws of the loops: the search for some element, and for the lowest place that breaks a rule.
+-- Laws of searches: for some element, and for the lowest place that breaks a rule.
 use mathlib.Core.Path.{◌≡◌, refl, sym, ap, subst, ◌∙◌}
 use mathlib.Core.Bool.{Bool, true, false, ◌||◌}
-use mathlib.Core.List.{List}
-use Prim.Native.Nat.{ℕ, ◌+◌, ◌≤◌, ◌<◌}
-use native.Mathlib.Nat.{not-suc-le-zero}
-use native.Mathlib.Numerals.{add-one}
+use mathlib.Core.List.{List, [], ◌∷◌, map}
+use Prim.Native.Nat.{ℕ, ◌≤◌, ◌<◌}
 use native.Mathlib.Omega.{arith}
-use lib.ListN.{length, get_or, drop, drop_of_length-le}
-use lib.Seq.{drop-cons}
-use lib.Dec.{eqb}
-use borrow.Author.Tests.{eq-eqb, ne_eqb}
-use borrow.Author.Count.{below_more}
+use lib.Dec.{T}
+use Rattle.std.specs.Prelude.{Option, None, Some, MatchOption}
+use Rattle.std.specs.List.{list_any}
 use Rattle.gdl.specs.Game.{Game}
 use Rattle.rules.specs.Rules.{some}
-use Rattle.judge.specs.Answers.{Tells, Searched, Tested}
-use Rattle.judge.specs.declared.found.Found.TheVariants.{Nowhere, At}
+use Rattle.rules.proofs.Judging.{Exact}
+use Rattle.judge.specs.Answers.{Searched}
 
--- none of the first i elements passes: whether some element does is left to the others
-pub record Left (f : ℕ → Bool) (xs : List ℕ) (i : ℕ) : Type 0 where
-  pub rest : some f xs ≡ some f (drop i xs)
+-- the library's test of some element, also of what a list maps to
+pub some_any : (f : ℕ → Bool) (xs : List ℕ) → list_any f xs ≡ some f xs
+some_any f [] = refl
+some_any f (x ∷ xs) = ap (λ b. f x || b) (some_any f xs)
 
-module _ (f : ℕ → Bool) (xs : List ℕ) where
-  pub left_start : Left f xs 0
-  left_start = record { rest = refl }
+pub some_map : {X : Type 0} (f : ℕ → Bool) (g : X → ℕ) (xs : List X) → list_any (λ x. f (g x)) xs ≡ some f (map g xs)
+some_map f g [] = refl
+some_map f g (x ∷ xs) = ap (λ b. f (g x) || b) (some_map f g xs)
 
-  module _ (i : ℕ) (l : Left f xs i) where
-    here : i < length xs → some f xs ≡ (f (get_or xs i 0) || some f (drop (i + 1) xs))
-    here lt = l.rest ∙ rw (drop-cons xs i 0 lt, add-one)
+-- a test that is the same below the bound
+pub exact_as : {B : ℕ → Type 0} {n m : ℕ} {f g : ℕ → Bool} → Exact B n f → m ≡ n → ((p : ℕ) → p < n → g p ≡ f p) → Exact B m g
+exact_as e em same = record {
+  inside = λ p b. omega (arith, e.inside p b, em);
+  strikes = λ p b. subst T (sym (same p (e.inside p b))) (e.strikes p b);
+  broken = λ p lt t. let l : p < _ = omega (arith, em) in e.broken p l (subst T (same p l) t);
+}
 
-    module _ (lt : i < length xs) (b : Bool) (e : b ≡ f (get_or xs i 0)) where
-      pub left_more : b ≡ false → Left f xs (i + 1)
-      left_more h = record { rest = here lt ∙ rw (← e, h) }
+-- the first of the numbers below n that passes the test, or that none does
+abbrev pub FirstBelow : ℕ → (ℕ → Bool) → Option ℕ → Type 0
+FirstBelow n f r = MatchOption r
+    ((k : ℕ) → 0 ≤ k → k < n → f k ≡ false)
+    (λ i. (0 ≤ i) × (i < n) × (f i ≡ true) × ((k : ℕ) → 0 ≤ k → k < i → f k ≡ false))
 
-      pub left_found : b ≡ true → true ≡ some f xs
-      left_found h = sym (here lt ∙ rw (← e, h))
-
-    pub left_none : length xs ≤ i → false ≡ some f xs
-    left_none le = sym (l.rest ∙ ap (some f) (drop_of_length-le xs le))
-
--- the same, of the test whether an element is k
-module _ (k : ℕ) (xs : List ℕ) (i : ℕ) (l : Left (eqb k) xs i) (lt : i < length xs) where
-  pub left_other : (k ≡ get_or xs i 0 → ⊥) → Left (eqb k) xs (i + 1)
-  left_other n = left_more (eqb k) xs i l lt _ refl (ne_eqb k (get_or xs i 0) n)
-
-  pub left_same : k ≡ get_or xs i 0 → true ≡ some (eqb k) xs
-  left_same e = left_found (eqb k) xs i l lt _ refl (eq-eqb k (get_or xs i 0) e)
-
--- ---- the lowest place that breaks a rule, of whatever game is held
-
--- no place below i breaks it
-pub record Clear (Held : Game → Type 0) (Broken : Game → ℕ → Type 0) (i : ℕ) : Type 0 where
-  pub none : (G : Game) → Held G → (q : ℕ) → q < i → Broken G q → ⊥
-
--- the places are below n
-pub record Bounded (Held : Game → Type 0) (Broken : Game → ℕ → Type 0) (n : ℕ) : Type 0 where
-  pub below : (G : Game) → Held G → (q : ℕ) → Broken G q → q < n
-
-module _ (Held : Game → Type 0) (Broken : Game → ℕ → Type 0) where
-  pub clear_start : Clear Held Broken 0
-  clear_start = record { none = λ G h q lt. absurd (not-suc-le-zero lt) }
-
-  module _ (i : ℕ) (c : Clear Held Broken i) where
-    module _ (b : Bool) (t : Tested Held Broken i b) where
-      pub clear_more : b ≡ false → Clear Held Broken (i + 1)
-      clear_more e = record { none = λ G h. below_more _ i (c.none G h) (subst (Tells (Broken G i)) e (t.tells G h)) }
-
-      pub clear_found : b ≡ true → Searched Held Broken (At i)
-      clear_found e = record { finds = λ G h. record { here = subst (Tells (Broken G i)) e (t.tells G h); lowest = c.none G h } }
-
-    pub clear_all : (n : ℕ) → Bounded Held Broken n → n ≤ i → Searched Held Broken Nowhere
-    clear_all n b le = record { finds = λ G h q x. c.none G h q (omega (arith, b.below G h q x)) x }
-
-pub ruleset searches = (left_start, left_more, left_found, left_none, left_other, left_same, clear_start, clear_more, clear_found, clear_all)
+-- it is the lowest place that breaks a rule, where the test strikes exactly at such places
+pub finds_lowest : (Held : Game → Type 0) (Broken : Game → ℕ → Type 0) (n : ℕ) (f : ℕ → Bool) → ((G : Game) → Held G → Exact (Broken G) n f)
+    → (r : Option ℕ) → FirstBelow n f r → Searched Held Broken r
+finds_lowest Held Broken n f e None none = record {
+  finds = λ G h p b. subst T (none p (omega arith) ((e G h).inside p b)) ((e G h).strikes p b);
+}
+finds_lowest Held Broken n f e (Some i) first = record {
+  finds = λ G h. record {
+    here = (e G h).broken i first.1 (subst T (sym first.2) tt);
+    lowest = λ q lt b. subst T (first.3 q (omega arith) lt) ((e G h).strikes q b);
+  };
+}

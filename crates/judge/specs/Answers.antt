@@ -13,9 +13,6 @@ abbrev pub Tells : Type 0 → Bool → Type 0
 Tells P true = P
 Tells P false = P → ⊥
 
--- the answer of a search, and of the test of place i
+-- the answer of a search
 pub record Searched (Held : Game → Type 0) (Broken : Game → ℕ → Type 0) (r : Option ℕ) : Type 0 where
   pub finds : (G : Game) → Held G → Finds (Broken G) r
-
-pub record Tested (Held : Game → Type 0) (Broken : Game → ℕ → Type 0) (i : ℕ) (b : Bool) : Type 0 where
-  pub tells : (G : Game) → Held G → Tells (Broken G i) b

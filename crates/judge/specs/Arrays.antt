@@ -1,6 +1,6 @@
 -- Arrays that hold a game, and the shape that each search asks of them.
-use Rattle.std.specs.Prelude.{◌≡◌, ◌⊎◌, ◌↔◌, Bool, ◌&&◌, List, [], ◌∷◌, map, ℕ, ◌+◌, ◌-◌, ◌/◌, ◌≤◌, ◌<◌, T, eqb, length, get_or, take, drop}
-use Rattle.gdl.specs.Game.{Game, role_kind, init_kind, next_kind, sees_kind, kind_of}
+use Rattle.std.specs.Prelude.{◌≡◌, ◌⊎◌, ◌↔◌, Bool, ◌&&◌, List, [], ◌∷◌, map, ℕ, ◌+◌, ◌-◌, ◌/◌, ◌≤◌, ◌<◌, T, eqb, ltb, length, get_or, take, drop}
+use Rattle.gdl.specs.Game.{Game, role_kind, init_kind, true_kind, does_kind, next_kind, sees_kind, kind_of}
 use Rattle.gdl.specs.Kinds.{kind_number}
 use Rattle.gdl.specs.declared.kinds.Kind.{Kind}
 use Rattle.gdl.specs.declared.arrays.AtomArrays.{AtomArrays}
@@ -9,7 +9,7 @@ use Rattle.gdl.specs.Layout.{kinds_of, firsts_of, heads_of, starts_from, literal
 use Rattle.gdl.specs.Flags.{on, bit}
 use Rattle.gdl.specs.Graph.{itself, Depends}
 use Rattle.edges.specs.Graph.{Graph}
-use Rattle.rules.specs.Rules.{one_of}
+use Rattle.rules.specs.Rules.{some, one_of}
 use Rattle.rules.specs.Limits.{Limits}
 use Rattle.judge.specs.Answers.{Tells}
 
@@ -43,6 +43,22 @@ pub record ClauseAsked (a : AtomArrays) (c : ClauseArrays) (i : ℕ) : Type 0 wh
   pub shaped : ClausesShaped a c
   pub clause : i < length c.heads.now
 
+-- the tests of 6, 7 and 8 at clause i
+abbrev pub head_kind : AtomArrays → ClauseArrays → ℕ → ℕ
+head_kind a c i = get_or a.kinds.now (get_or c.heads.now i 0) 0
+
+abbrev pub role_with_body : AtomArrays → ClauseArrays → ℕ → Bool
+role_with_body a c i = eqb (head_kind a c i) role_kind && ltb (get_or c.starts.now i 0) (get_or c.starts.now (i + 1) 0)
+
+abbrev pub never_head : AtomArrays → ClauseArrays → ℕ → Bool
+never_head a c i = one_of (true_kind ∷ does_kind ∷ []) (head_kind a c i)
+
+abbrev pub body_at : List ℕ → List ℕ → ℕ → List ℕ
+body_at starts literals i = take (get_or starts (i + 1) 0 - get_or starts i 0) (drop (get_or starts i 0) literals)
+
+abbrev pub never_in_body : AtomArrays → ClauseArrays → ℕ → Bool
+never_in_body a c i = some (λ x. one_of (init_kind ∷ next_kind ∷ sees_kind ∷ []) (get_or a.kinds.now (x / 2) 0)) (body_at c.starts.now c.literals.now i)
+
 -- an atom that never stands in a body has a use among so many literals
 pub record Misused (kinds first : List ℕ) (many : ℕ) : Type 0 where
   pub atom : ℕ
@@ -53,9 +69,6 @@ pub record Misused (kinds first : List ℕ) (many : ℕ) : Type 0 where
 -- whether there is one
 pub record AnyMisused (kinds first : List ℕ) (many : ℕ) (r : Bool) : Type 0 where
   pub tells : Tells (Misused kinds first many) r
-
-abbrev pub body_at : List ℕ → List ℕ → ℕ → List ℕ
-body_at starts literals i = take (get_or starts (i + 1) 0 - get_or starts i 0) (drop (get_or starts i 0) literals)
 
 -- ---- seats: 12
 
@@ -72,6 +85,7 @@ pub record RolesShaped (a : AtomArrays) (c : ClauseArrays) : Type 0 where
   pub same : length a.firsts.now ≡ length a.kinds.now
   pub atoms : (i : ℕ) → i < length c.heads.now → get_or c.heads.now i 0 < length a.kinds.now
 
+-- an atom, with its kind and first field
 pub record RoleAsked (a : AtomArrays) (p : ℕ) : Type 0 where
   pub kind : p < length a.kinds.now
   pub first : p < length a.firsts.now

@@ -1,8 +1,9 @@
 // The rules that a clause breaks by itself: 6, 7 and 8.
-ghost use Rattle.std.specs.Prelude.{◌≡◌, ◌/◌, length, get_or};
-ghost use Rattle.rules.specs.Rules.{some, one_of, RoleBroken, HeadBroken, BodyBroken};
-ghost use Rattle.judge.specs.Answers.{Searched, Tested};
-ghost use Rattle.judge.specs.Arrays.{numbers, HeldClauses, HeldUses, ClauseAsked, LiteralsOver, UsesAsked, AnyMisused};
+ghost use Rattle.std.specs.Prelude.{◌≡◌, ◌&&◌, [], ◌∷◌, ◌/◌, ◌≤◌, ltb, length, get_or};
+ghost use Rattle.gdl.specs.Game.{init_kind, next_kind, sees_kind};
+ghost use Rattle.rules.specs.Rules.{some, one_of, BodyBroken};
+ghost use Rattle.judge.specs.Answers.{Searched};
+ghost use Rattle.judge.specs.Arrays.{numbers, head_kind, role_with_body, never_head, never_in_body, HeldUses, ClauseAsked, LiteralsOver, UsesAsked, AnyMisused};
 
 use edges::Edges;
 use gdl::arrays::{AtomArrays, ClauseArrays};
@@ -13,7 +14,7 @@ use super::kinds::one_of;
 // The kind of a clause's head.
 fn head_kind(atoms: &AtomArrays, clauses: &ClauseArrays, i: usize) -> u16
     requires { ClauseAsked atoms.now clauses.now i }
-    ensures { result ≡ get_or atoms.now.kinds.now (get_or clauses.now.heads.now i 0) 0 }
+    ensures { result ≡ head_kind atoms.now clauses.now i }
 {
     atoms.kinds[usize::from(clauses.heads[i])]
 }
@@ -21,7 +22,7 @@ fn head_kind(atoms: &AtomArrays, clauses: &ClauseArrays, i: usize) -> u16
 // 6: whether a clause has a role atom as its head, and literals.
 pub(super) fn role_with_body(atoms: &AtomArrays, clauses: &ClauseArrays, i: usize) -> bool
     requires { ClauseAsked atoms.now clauses.now i }
-    ensures { Tested (HeldClauses atoms.now clauses.now) RoleBroken i result }
+    ensures { result ≡ role_with_body atoms.now clauses.now i }
 {
     head_kind(atoms, clauses, i) == Kind::Role.number() && clauses.starts[i] < clauses.starts[i + 1]
 }
@@ -29,7 +30,7 @@ pub(super) fn role_with_body(atoms: &AtomArrays, clauses: &ClauseArrays, i: usiz
 // 7: whether a clause has an atom as its head that never is one.
 pub(super) fn never_head(atoms: &AtomArrays, clauses: &ClauseArrays, i: usize) -> bool
     requires { ClauseAsked atoms.now clauses.now i }
-    ensures { Tested (HeldClauses atoms.now clauses.now) HeadBroken i result }
+    ensures { result ≡ never_head atoms.now clauses.now i }
 {
     one_of(&[Kind::True, Kind::Does], head_kind(atoms, clauses, i))
 }
@@ -47,7 +48,7 @@ fn some_literal_of(kinds: &[u16], literals: &[u16], these: &[Kind]) -> bool
 // 8: whether a clause has a literal of an atom that never stands in a body.
 fn never_in_body(atoms: &AtomArrays, clauses: &ClauseArrays, i: usize) -> bool
     requires { ClauseAsked atoms.now clauses.now i }
-    ensures { Tested (HeldClauses atoms.now clauses.now) BodyBroken i result }
+    ensures { result ≡ never_in_body atoms.now clauses.now i }
 {
     let start = usize::from(clauses.starts[i]);
     let end = usize::from(clauses.starts[i + 1]);
@@ -58,13 +59,20 @@ fn never_in_body(atoms: &AtomArrays, clauses: &ClauseArrays, i: usize) -> bool
     )
 }
 
-// Whether some atom never stands in a body and has a use: its first one is a literal of so many. One visit an atom.
+// Whether an atom never stands in a body and has a use: its first one is a literal of so many.
+fn misused(kind: u16, first: u16, many: usize) -> bool
+    ensures { result ≡ (ltb first many && one_of (init_kind ∷ next_kind ∷ sees_kind ∷ []) kind) }
+{
+    usize::from(first) < many && one_of(&[Kind::Init, Kind::Next, Kind::Sees], kind)
+}
+
+// Whether some atom is: one visit an atom.
 fn any_misused(kinds: &[u16], first: &[u16; 1024], many: usize) -> bool
     requires { length kinds.now ≤ 1024 }
     ensures { AnyMisused kinds.now first.now many result }
 {
     for (p, kind) in kinds.iter().enumerate() {
-        if usize::from(first[p]) < many && one_of(&[Kind::Init, Kind::Next, Kind::Sees], *kind) {
+        if misused(*kind, first[p], many) {
             return true;
         }
     }

@@ -1,5 +1,5 @@
 // The rules of dependence: 9 and 10.
-ghost use Rattle.std.specs.Prelude.{T};
+ghost use Rattle.std.specs.Prelude.{◌≡◌, T};
 ghost use Rattle.rules.specs.Rules.{Leans};
 ghost use Rattle.rules.specs.Judged.{disjoint};
 ghost use Rattle.edges.specs.Queue.{no_marks};
