@@ -19,9 +19,6 @@ use Rattle.judge.proofs.Holding.{clauses_held, kind_held, head_held, end_held, b
 
 -- ---- what the tests ask for
 
-pub literal_in : (kinds literals : List ℕ) → LiteralsOver kinds literals → (k : ℕ) → k < length literals → get_or literals k 0 / 2 < length kinds
-literal_in kinds literals h = h.atoms
-
 pub part_over : (kinds literals : List ℕ) → LiteralsOver kinds literals → (s n : ℕ) → LiteralsOver kinds (take n (drop s literals))
 part_over kinds literals h s n = record {
   atoms = λ k lt.
@@ -49,7 +46,7 @@ module _ (a : AtomArrays) (c : ClauseArrays) (i : ℕ) (q : ClauseAsked a c i) w
   pub asked_over : (s n : ℕ) → LiteralsOver a.kinds.now (take n (drop s c.literals.now))
   asked_over = part_over a.kinds.now c.literals.now q.shaped.body_atoms
 
-pub ruleset asking = (literal_in, asked_clause, asked_head, asked_end, asked_rising, asked_part, asked_over)
+pub ruleset asking = (asked_clause, asked_head, asked_end, asked_rising, asked_part, asked_over)
 
 -- ---- what they tell of the rules
 

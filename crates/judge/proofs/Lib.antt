@@ -1,3 +1,4 @@
+pub mod Elements
 pub mod Searching
 pub mod Holding
 pub mod Breaking

@@ -1,25 +1,13 @@
--- Laws of searches: for some element, and for the lowest place that breaks a rule.
-use mathlib.Core.Path.{◌≡◌, refl, sym, ap, subst, ◌∙◌}
-use mathlib.Core.Bool.{Bool, true, false, ◌||◌}
-use mathlib.Core.List.{List, [], ◌∷◌, map}
+-- Laws of searches for the lowest place that breaks a rule.
+use mathlib.Core.Path.{◌≡◌, sym, subst}
+use mathlib.Core.Bool.{Bool, true, false}
 use Prim.Native.Nat.{ℕ, ◌≤◌, ◌<◌}
 use native.Mathlib.Omega.{arith}
 use lib.Dec.{T}
 use Rattle.std.specs.Prelude.{Option, None, Some, MatchOption}
-use Rattle.std.specs.List.{list_any}
 use Rattle.gdl.specs.Game.{Game}
-use Rattle.rules.specs.Rules.{some}
 use Rattle.rules.proofs.Judging.{Exact}
 use Rattle.judge.specs.Answers.{Searched}
-
--- the library's test of some element, also of what a list maps to
-pub some_any : (f : ℕ → Bool) (xs : List ℕ) → list_any f xs ≡ some f xs
-some_any f [] = refl
-some_any f (x ∷ xs) = ap (λ b. f x || b) (some_any f xs)
-
-pub some_map : {X : Type 0} (f : ℕ → Bool) (g : X → ℕ) (xs : List X) → list_any (λ x. f (g x)) xs ≡ some f (map g xs)
-some_map f g [] = refl
-some_map f g (x ∷ xs) = ap (λ b. f (g x) || b) (some_map f g xs)
 
 -- a test that is the same below the bound
 pub exact_as : {B : ℕ → Type 0} {n m : ℕ} {f g : ℕ → Bool} → Exact B n f → m ≡ n → ((p : ℕ) → p < n → g p ≡ f p) → Exact B m g

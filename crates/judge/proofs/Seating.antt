@@ -19,9 +19,6 @@ use Rattle.rules.proofs.Judging.{Exact, seat_exact}
 use Rattle.judge.proofs.Holding.{kind_held, first_held}
 use Rattle.judge.proofs.Searching.{exact_as}
 
-pub asked_role : (a : AtomArrays) (c : ClauseArrays) → RolesShaped a c → (i : ℕ) → i < length c.heads.now → RoleAsked a (get_or c.heads.now i 0)
-asked_role a c s i lt = record { kind = s.atoms i lt; first = omega (arith, s.atoms i lt, s.same) }
-
 -- the role atom by its kind and first field: its second field is 0
 role_same : (G : Game) → Limits G → (s p : ℕ) → p < length G.atoms → (eqb (kind_of G p) role_kind && eqb (atom_at G p).first s) ≡ is_atom role_kind s 0 (atom_at G p)
 role_same G l s p lt = go (atom_at G p) λ e. let h : (atom_at G p).second < 1 = subst (λ (k : ℕ). (atom_at G p).second < second_end G k) e (l.seconds p lt) in omega arith
