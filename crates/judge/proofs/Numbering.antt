@@ -42,42 +42,37 @@ more_blank v n e le b = ext_get_or 0 _ _ (more_long v n e le ∙ sym (length-rep
     none p = subst (λ (w : List ℕ). look w p ≡ 0) (sym b) (no_mark (length v) p)
 
 module _ (kinds owners literals : List ℕ) (s : EdgesShaped kinds owners literals) (old : List ℕ) (e : old ≡ blank 1024) where
-  zero_off : length kinds - 0 ≡ length kinds
-  zero_off = omega arith
-
-  part_long : length (take (length kinds - 0) old) ≡ length kinds
-  part_long = rw zero_off (length-take-le (length kinds) old (omega (arith, s.atoms, ap length e, length-replicate {A = ℕ} 1024 0)))
+  part_long : length (take (length kinds) old) ≡ length kinds
+  part_long = length-take-le (length kinds) old (omega (arith, s.atoms, ap length e, length-replicate {A = ℕ} 1024 0))
 
   pub levels_room : length kinds ≤ length old
   levels_room = omega (arith, s.atoms, ap length e, length-replicate {A = ℕ} 1024 0)
 
-  pub asked_levels : Asked owners literals (take (length kinds - 0) old)
+  pub asked_levels : Asked owners literals (take (length kinds) old)
   asked_levels = record {
     graph = rw part_long s.graph;
     atoms = omega (arith, part_long, s.atoms);
   }
 
-  pub levels_numbered : (v : List ℕ) (r : Result ℕ ℕ) → Numbers owners literals (take (length kinds - 0) old) v r → LevelsOf (HeldEdges kinds owners literals) r (v ++ drop (length kinds - 0) old)
+  pub levels_numbered : (v : List ℕ) (r : Result ℕ ℕ) → Numbers owners literals (take (length kinds) old) v r → LevelsOf (HeldEdges kinds owners literals) r (v ++ drop (length kinds) old)
   levels_numbered v r n = record { says = λ G h. rw e (go G h r (n.answers itself G.clauses (rw part_long (held_drawn kinds owners literals G h)))) }
     where
-      go : (G : Game) → HeldEdges kinds owners literals G → (r : Result ℕ ℕ) → Answers itself G.clauses v r → LevelsOr11 G r (v ++ drop (length kinds - 0) (blank 1024))
-      go G h (Err p) a = (record { here = a.0.turns; lowest = a.0.lowest }, more_blank v (length kinds - 0) (n.long ∙ part_long ∙ sym zero_off) (omega (arith, s.atoms)) a.1)
+      go : (G : Game) → HeldEdges kinds owners literals G → (r : Result ℕ ℕ) → Answers itself G.clauses v r → LevelsOr11 G r (v ++ drop (length kinds) (blank 1024))
+      go G h (Err p) a = (record { here = a.0.turns; lowest = a.0.lowest }, more_blank v (length kinds) (n.long ∙ part_long) s.atoms a.1)
       go G h (Ok top) a =
           let many : length v ≡ length G.atoms = n.long ∙ part_long ∙ kinds_many kinds owners literals G h in
           record {
-            places = more_long v (length kinds - 0) (n.long ∙ part_long ∙ sym zero_off) (omega (arith, s.atoms));
+            places = more_long v (length kinds) (n.long ∙ part_long) s.atoms;
             least = record {
-              allowed = levels_same G.clauses (look v) _ (more_places v (length kinds - 0)) a.0.allowed;
-              least = λ ℓ l p. omega (arith, a.0.least ℓ l p, more_places v (length kinds - 0) p);
+              allowed = levels_same G.clauses (look v) _ (more_places v (length kinds)) a.0.allowed;
+              least = λ ℓ l p. omega (arith, a.0.least ℓ l p, more_places v (length kinds) p);
             };
             top_is = record {
-              above = λ p lt. omega (arith, a.1.above p (omega (arith, many)), more_places v (length kinds - 0) p);
-              first = λ t k. a.1.first t (λ p lt. omega (arith, k p (omega (arith, many)), more_places v (length kinds - 0) p));
+              above = λ p lt. omega (arith, a.1.above p (omega (arith, many)), more_places v (length kinds) p);
+              first = λ t k. a.1.first t (λ p lt. omega (arith, k p (omega (arith, many)), more_places v (length kinds) p));
             };
-            past = λ p le. more_places v (length kinds - 0) p ∙ get_or-eq_default v 0 (omega (arith, many));
+            past = λ p le. more_places v (length kinds) p ∙ get_or-eq_default v 0 (omega (arith, many));
           }
-
-pub ruleset numbering = (levels_room, asked_levels, levels_numbered)
 
 -- where there are levels, no atom turns back
 pub levelled_none : (G : Game) (v : List ℕ) (top : ℕ) → ((c : Clause) → Memᴰ c G.clauses → c.head < length G.atoms) → Levelled G v top → (p : ℕ) → LevelsBroken G p → ⊥

@@ -1,5 +1,5 @@
 -- Laws of rules in a row: what answers them.
-use mathlib.Core.Path.{◌≡◌, refl, sym}
+use mathlib.Core.Path.{◌≡◌, refl, sym, subst}
 use mathlib.Core.Logic.{inl, inr}
 use mathlib.Core.List.{List, [], ◌∷◌, ◌++◌}
 use Prim.Native.Nat.{ℕ}
@@ -15,7 +15,7 @@ use Rattle.rules.specs.Verdict.{Verdict, unfit, fit}
 use Rattle.rules.specs.Rules.{LevelsBroken, RoleMissing, Ruled}
 use Rattle.judge.specs.Answers.{Searched}
 use Rattle.judge.specs.Arrays.{HeldClauses, HeldEdges, HeldRoles, HeldUses}
-use Rattle.judge.specs.Judgement.{Rule, RuledIn, head_rules, use_rules, last_rules, verdict_of, Held, Answers, LevelsOf, Judges, HeldLast}
+use Rattle.judge.specs.Judgement.{Rule, RuledIn, head_rules, use_rules, last_rules, verdict_of, Held, Answers, Levelled, LevelsOr11, LevelsOf, Judges, HeldLast}
 use Rattle.judge.proofs.Numbering.{levelled_none}
 use Rattle.judge.proofs.Shaping.{held_clauses, held_uses, held_last}
 
@@ -57,15 +57,18 @@ module _ (a : AtomArrays) (c : ClauseArrays) (owners literals : List ℕ) (seats
   pub last_refused : (p : ℕ) → LevelsOf (HeldEdges a.kinds.now owners literals) (Err p) v → Judges (HeldLast a c owners literals seats) (RuledIn last_rules) (Err (NoLevels p)) v
   last_refused p l = record { ruled = λ G h. inl (p, (l.says G h.edges).0, refl); leaves = λ G h. (l.says G h.edges).1 }
 
-  module _ (top : ℕ) (l : LevelsOf (HeldEdges a.kinds.now owners literals) (Ok top) v) where
+  module _ (n : Result ℕ ℕ) (l : LevelsOf (HeldEdges a.kinds.now owners literals) n v) (top : ℕ) (e : n ≡ Ok top) where
+    levelled : (G : Game) → HeldEdges a.kinds.now owners literals G → Levelled G v top
+    levelled G h = subst (λ m. LevelsOr11 G m v) e (l.says G h)
+
     no_cycle : (G : Game) → HeldEdges a.kinds.now owners literals G → (p : ℕ) → LevelsBroken G p → ⊥
-    no_cycle G h = levelled_none G v top h.limits.heads (l.says G h)
+    no_cycle G h = levelled_none G v top h.limits.heads (levelled G h)
 
     pub last_seat : (q : ℕ) → Searched (HeldRoles a c seats) RoleMissing (Some q) → Judges (HeldLast a c owners literals seats) (RuledIn last_rules) (Err (NoRoleFact q)) (blank 1024)
     last_seat q s = record { ruled = λ G h. inr (no_cycle G h.edges, inl (q, s.finds G h.roles, refl)); leaves = λ G h. refl }
 
     pub last_done : Searched (HeldRoles a c seats) RoleMissing None → Judges (HeldLast a c owners literals seats) (RuledIn last_rules) (Ok top) v
-    last_done s = record { ruled = λ G h. inr (no_cycle G h.edges, inr (s.finds G h.roles, refl)); leaves = λ G h. l.says G h.edges }
+    last_done s = record { ruled = λ G h. inr (no_cycle G h.edges, inr (s.finds G h.roles, refl)); leaves = λ G h. levelled G h.edges }
 
 -- ---- all of them
 

@@ -1,9 +1,9 @@
 // The rules that a clause breaks by itself: 6, 7 and 8.
 ghost use Rattle.std.specs.Prelude.{◌≡◌, ◌&&◌, [], ◌∷◌, ◌/◌, ◌≤◌, ltb, length, get_or};
 ghost use Rattle.gdl.specs.Game.{init_kind, next_kind, sees_kind};
-ghost use Rattle.rules.specs.Rules.{some, one_of, BodyBroken};
+ghost use Rattle.rules.specs.Rules.{some, one_of, RoleBroken, HeadBroken, BodyBroken};
 ghost use Rattle.judge.specs.Answers.{Searched};
-ghost use Rattle.judge.specs.Arrays.{numbers, head_kind, role_with_body, never_head, never_in_body, HeldUses, ClauseAsked, LiteralsOver, UsesAsked, AnyMisused};
+ghost use Rattle.judge.specs.Arrays.{numbers, head_kind, role_with_body, never_head, never_in_body, HeldClauses, HeldUses, ClausesShaped, ClauseAsked, LiteralsOver, UsesAsked, AnyMisused};
 
 use edges::Edges;
 use gdl::arrays::{AtomArrays, ClauseArrays};
@@ -20,19 +20,35 @@ fn head_kind(atoms: &AtomArrays, clauses: &ClauseArrays, i: usize) -> u16
 }
 
 // 6: whether a clause has a role atom as its head, and literals.
-pub(super) fn role_with_body(atoms: &AtomArrays, clauses: &ClauseArrays, i: usize) -> bool
+fn role_with_body(atoms: &AtomArrays, clauses: &ClauseArrays, i: usize) -> bool
     requires { ClauseAsked atoms.now clauses.now i }
     ensures { result ≡ role_with_body atoms.now clauses.now i }
 {
     head_kind(atoms, clauses, i) == Kind::Role.number() && clauses.starts[i] < clauses.starts[i + 1]
 }
 
+// 6: the lowest clause that breaks it.
+pub(super) fn lowest_role_with_body(atoms: &AtomArrays, clauses: &ClauseArrays) -> Option<usize>
+    requires { ClausesShaped atoms.now clauses.now }
+    ensures { Searched (HeldClauses atoms.now clauses.now) RoleBroken result }
+{
+    (0..clauses.heads.len()).find(|i| role_with_body(atoms, clauses, *i))
+}
+
 // 7: whether a clause has an atom as its head that never is one.
-pub(super) fn never_head(atoms: &AtomArrays, clauses: &ClauseArrays, i: usize) -> bool
+fn never_head(atoms: &AtomArrays, clauses: &ClauseArrays, i: usize) -> bool
     requires { ClauseAsked atoms.now clauses.now i }
     ensures { result ≡ never_head atoms.now clauses.now i }
 {
     one_of(&[Kind::True, Kind::Does], head_kind(atoms, clauses, i))
+}
+
+// 7: the lowest clause that breaks it.
+pub(super) fn lowest_never_head(atoms: &AtomArrays, clauses: &ClauseArrays) -> Option<usize>
+    requires { ClausesShaped atoms.now clauses.now }
+    ensures { Searched (HeldClauses atoms.now clauses.now) HeadBroken result }
+{
+    (0..clauses.heads.len()).find(|i| never_head(atoms, clauses, *i))
 }
 
 // Whether some of the literals is of an atom of one of these kinds.
@@ -79,7 +95,7 @@ fn any_misused(kinds: &[u16], first: &[u16; 1024], many: usize) -> bool
     false
 }
 
-// The lowest clause that breaks 8. The first uses tell whether there is one, so that an accepted table's literals are not read again.
+// 8: the lowest clause that breaks it. The first uses tell whether there is one, so that an accepted table's literals are not read again.
 pub(super) fn lowest_misusing(
     atoms: &AtomArrays,
     clauses: &ClauseArrays,

@@ -24,11 +24,10 @@ fn judge_heads(atoms: &AtomArrays, clauses: &ClauseArrays) -> Result<(), Refusal
     requires { ClausesShaped atoms.now clauses.now }
     ensures { Answers (HeldClauses atoms.now clauses.now) head_rules result }
 {
-    let many = clauses.heads.len();
-    if let Some(i) = (0..many).find(|i| clauses::role_with_body(atoms, clauses, *i)) {
+    if let Some(i) = clauses::lowest_role_with_body(atoms, clauses) {
         return Err(Refusal::RoleWithBody(i));
     }
-    if let Some(i) = (0..many).find(|i| clauses::never_head(atoms, clauses, *i)) {
+    if let Some(i) = clauses::lowest_never_head(atoms, clauses) {
         return Err(Refusal::NeverHead(i));
     }
     Ok(())

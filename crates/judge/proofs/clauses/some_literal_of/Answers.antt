@@ -8,7 +8,7 @@ use Rattle.std.proofs.lemmas.Iterator.Adapters.{serves_from_places}
 use Rattle.std.proofs.lemmas.Iterator.Search.{any_from_yields_List}
 use Rattle.rules.specs.Rules.{one_of}
 use Rattle.judge.specs.Arrays.{numbers}
-use Rattle.judge.proofs.Elements.{some_any}
+use Rattle.judge.proofs.Elements.{some_any, literal_in}
 use Rattle.judge.proofs.clauses.some_literal_of.Goals as goal
 
 pub any-requires : goal.any-requires

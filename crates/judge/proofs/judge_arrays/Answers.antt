@@ -1,0 +1,21 @@
+-- The arrays of a game have the shape that each part asks for; a refusal stands whatever follows, and else what follows decides.
+use borrow.Author.Rules.{rules}
+use Rattle.edges.specs.Uses.{no_uses, no_nexts}
+use Rattle.judge.proofs.Shaping.{clauses_shaped, ends_indexed, edges_indexed, uses_asked, last_asked}
+use Rattle.judge.proofs.judge_arrays.Goals as goal
+
+pub judge_heads-requires : goal.judge_heads-requires
+judge_heads-requires c = clauses_shaped _ _ _ _ c.requires.0
+
+pub index_uses-requires : goal.index_uses-requires
+unfolding no_uses no_nexts
+index_uses-requires c = record { ends = ends_indexed _ _ _ _ c.requires.0; no_firsts = search rules; empty_nexts = search rules }
+
+pub invariant_of-edges : goal.invariant_of-edges
+invariant_of-edges c = record { indexed = edges_indexed _ _ _ _ c.requires.0 _ _ c.index_uses.ensures }
+
+pub judge_uses-requires : goal.judge_uses-requires
+judge_uses-requires c = uses_asked _ _ _ _ c.requires.0
+
+pub judge_last-requires : goal.judge_last-requires
+judge_last-requires c = (last_asked _ _ _ _ c.requires.0, c.requires.1)
