@@ -112,14 +112,14 @@ module _ (s : List ℕ) (before after : Arrays) where
       go (fault g) q w = let z : ◌≡◌ {A = ℕ} 0 1 = cc in absurd (omega arith)
 
 module _ {s : List ℕ} {r : Read} {a : Arrays} (g : Got s r a) {x : AtomArrays} {y : ClauseArrays} (ux : AtomsUsed r.header.sizes.atoms a.atoms x) (uy : ClausesUsed r.clauses a.clauses y)
-    {owners : List ℕ} (eo : owners ≡ take (length y.literals.now) a.clauses.owners) where
-  held : J.Held x y owners r.header.players.seats g.game
-  held = held_judge g.laid ux uy owners eo
+    {owners : List ℕ} {seats : ℕ} (eo : owners ≡ take (length y.literals.now) a.clauses.owners) (es : seats ≡ r.header.players.seats) where
+  held : J.Held x y owners seats g.game
+  held = held_judge g.laid ux uy owners seats eo es
 
-  pub judgeable : J.HoldsGame x y owners r.header.players.seats
+  pub judgeable : J.HoldsGame x y owners seats
   judgeable = record { game = g.game; held = held }
 
-  module _ {j : Result ℕ Refusal} {v : List ℕ} (w : J.Judges (J.Held x y owners r.header.players.seats) Ruled j v) where
+  module _ {j : Result ℕ Refusal} {v : List ℕ} (w : J.Judges (J.Held x y owners seats) Ruled j v) where
     pub broken : (f : Refusal) → j ≡ Err f → judge s ≡ unfit f
     broken f e = sym (read_judge s g.game g.end (unfit f) g.read (rw e at (w.ruled g.game held)))
 

@@ -92,12 +92,8 @@ module _ {r : Read} {a : Arrays} {G : Game} (h : Laid r a G) where
     literals_held : y.literals.now ≡ literals_of G.clauses
     literals_held = uy.literals_are ∙ literals_part
 
-    -- the literals' owners are as many as the literals
-    pub owners_end : length y.literals.now ≤ 8192
-    owners_end = rw literals_held h.limits.literals
-
-    pub held_judge : (owners : List ℕ) → owners ≡ take (length y.literals.now) a.clauses.owners → J.Held x y owners r.header.players.seats G
-    held_judge owners e = record {
+    pub held_judge : (owners : List ℕ) (seats : ℕ) → owners ≡ take (length y.literals.now) a.clauses.owners → seats ≡ r.header.players.seats → J.Held x y owners seats G
+    held_judge owners seats e es = record {
       limits = h.limits;
       kinds_are = ux.kinds_are ∙ column (λ b. b.kind) a.atoms.kinds h.kinds_are;
       firsts_are = ux.firsts_are ∙ column (λ b. b.first) a.atoms.firsts h.firsts_are;
@@ -105,7 +101,7 @@ module _ {r : Read} {a : Arrays} {G : Game} (h : Laid r a G) where
       starts_are = uy.starts_are ∙ starts_part;
       literals_are = literals_held;
       owners_are = e ∙ rw (literals_held, h.owners_are, ← (owners_long G.clauses)) (part_used 8192 (owners_of G.clauses) (omega (arith, owners_long G.clauses, h.limits.literals)));
-      seats_are = ap (λ (k : Header). k.players.seats) h.header_is;
+      seats_are = es ∙ ap (λ (k : Header). k.players.seats) h.header_is;
     }
 
     pub held_model : T.Held G x.kinds.now x.firsts.now x.seconds.now y.heads.now y.starts.now y.literals.now

@@ -1,5 +1,5 @@
 -- The arrays of a decoded table, and the parts of them that are in use.
-use Rattle.std.specs.Prelude.{◌≡◌, List, ℕ, ◌+◌, length, get_or, take}
+use Rattle.std.specs.Prelude.{◌≡◌, List, ℕ, ◌+◌, ◌≤◌, length, get_or, take}
 use Rattle.std.proofs.lemmas.List.Edits.{sets}
 use Rattle.gdl.specs.Game.{Game}
 use Rattle.gdl.specs.declared.arrays.AtomArrays.{AtomArrays}
@@ -37,3 +37,4 @@ pub record ClausesUsed (n : ℕ) (room : ClauseRoom) (c : ClauseArrays) : Type 0
   pub heads_are : c.heads.now ≡ take n room.heads
   pub starts_are : c.starts.now ≡ take (n + 1) room.starts
   pub literals_are : c.literals.now ≡ take (get_or room.starts n 0) room.literals
+  pub few : length c.literals.now ≤ 8192
