@@ -1,12 +1,13 @@
 -- Laws of the reading of atom records, one after another.
 use Prim.Native.Nat.{ℕ, suc, ◌+◌, ◌-◌, ◌≤◌, ◌<◌}
 use native.Mathlib.Omega.{arith}
+use native.Mathlib.Decide.{dec_lt}
+use Rattle.std.specs.Prelude.{Bool, true, false, not, ltb, Option, Some, None, Ok, Err}
 use native.Mathlib.Nat.{sub-zero}
 use mathlib.Core.Path.{◌≡◌, refl}
 use mathlib.Core.List.{List, [], ◌∷◌, ◌++◌, append-nil}
 use lib.ListN.{length, set, length-append}
 use borrow.Author.Tests.{lt-ltb, le-ltb}
-use Rattle.std.specs.Prelude.{Ok, Err}
 use Rattle.refusals.specs.declared.Refusal.{Refusal}
 use Rattle.refusals.specs.declared.Refusal.TheVariants.{NotAbove}
 use Rattle.gdl.specs.Game.{Atom}
@@ -18,16 +19,36 @@ use Rattle.table.specs.declared.atoms.AtomRecord.{AtomRecord}
 use Rattle.table.specs.declared.tables.AtomRoom.{AtomRoom}
 use Rattle.table.proofs.Runs.{onto, onto_none, onto_cons, stored_next}
 
+-- the least place in the order for the record after this one
+abbrev pub least_after : Option AtomRecord → ℕ
+least_after None = 0
+least_after (Some b) = key_of b + 1
+
+-- is a record no higher than the one before
+abbrev pub too_low : AtomRecord → Option AtomRecord → Bool
+too_low a None = false
+too_low a (Some b) = not (ltb (key_of b) (key_of a))
+
 -- what holds while atoms are read: those that are done stand in the arrays, and the reading goes on from them
-pub record Reading (h : Header) (s : List ℕ) (at n : ℕ) (old room : AtomRoom) (k least next : ℕ) : Type 0 where
+pub record Reading (h : Header) (s : List ℕ) (at n : ℕ) (old room : AtomRoom) (k : ℕ) (last : Option AtomRecord) (next : ℕ) : Type 0 where
   pub within : k ≤ n
   pub done : List Atom
   pub many : length done ≡ k
   pub laid : AtomsLaid done old room
-  pub whole : atoms_from h n 0 s at ≡ onto done (atoms_from h (n - k) least s next)
+  pub whole : atoms_from h n 0 s at ≡ onto done (atoms_from h (n - k) (least_after last) s next)
+
+flip : (x y : ℕ) → ltb x (y + 1) ≡ not (ltb y x)
+flip x y = elim (dec_lt y x) [
+  | yes l ↦ let g : y + 1 ≤ x = omega arith in rw (lt-ltb y x l, le-ltb x (y + 1) g) refl
+  | no g ↦ let l : x < y + 1 = omega arith in rw (lt-ltb x (y + 1) l, le-ltb y x (omega arith)) refl
+]
+
+low_test : (a : AtomRecord) (last : Option AtomRecord) (t : Bool) → too_low a last ≡ t → ltb (key_of a) (least_after last) ≡ t
+low_test a None t e = rw (le-ltb (key_of a) 0 (omega arith)) e
+low_test a (Some b) t e = rw (flip (key_of a) (key_of b)) e
 
 module _ {h : Header} {s : List ℕ} {at n : ℕ} {old : AtomRoom} where
-  pub reading_starts : Reading h s at n old old 0 0 at
+  pub reading_starts : Reading h s at n old old 0 None at
   reading_starts = record {
     within = omega arith;
     done = [];
@@ -36,7 +57,7 @@ module _ {h : Header} {s : List ℕ} {at n : ℕ} {old : AtomRoom} where
     whole = rw sub-zero (onto_none _);
   }
 
-  module _ {room : AtomRoom} {k least next : ℕ} (i : Reading h s at n old room k least next) where
+  module _ {room : AtomRoom} {k next : ℕ} {last : Option AtomRecord} (i : Reading h s at n old room k last next) where
     module _ (l : k < n) where
       left : n - k ≡ suc (n - (k + 1))
       left = omega arith
@@ -45,13 +66,13 @@ module _ {h : Header} {s : List ℕ} {at n : ℕ} {old : AtomRoom} where
       unfolding atoms_from onto
       reading_fault {f} e = rw (i.whole, left, ← e) refl
 
-      module _ {a : AtomRecord} {end q : ℕ} (e : ok (atom_of a) end ≡ atom h s next) (eq : q ≡ key_of a) where
-        pub reading_low : q < least → WroteAtoms (atoms_from h n 0 s at) old (Err (NotAbove next)) room
+      module _ {a : AtomRecord} {end : ℕ} (e : ok (atom_of a) end ≡ atom h s next) where
+        pub reading_low : too_low a last ≡ true → WroteAtoms (atoms_from h n 0 s at) old (Err (NotAbove next)) room
         unfolding atoms_from onto
-        reading_low m = rw (i.whole, left, ← e, ← eq, lt-ltb q least) refl
+        reading_low m = rw (i.whole, left, ← e, low_test a last true m) refl
 
-        pub reading_more : least ≤ q
-            → Reading h s at n old (record { kinds = set room.kinds k a.kind; firsts = set room.firsts k a.first; seconds = set room.seconds k a.second }) (k + 1) (q + 1) end
+        pub reading_more : too_low a last ≡ false
+            → Reading h s at n old (record { kinds = set room.kinds k a.kind; firsts = set room.firsts k a.first; seconds = set room.seconds k a.second }) (k + 1) (Some a) end
         unfolding atoms_from
         reading_more m =
             let j : k ≡ 0 + length i.done = omega (arith, i.many) in
@@ -64,7 +85,7 @@ module _ {h : Header} {s : List ℕ} {at n : ℕ} {old : AtomRoom} where
                 firsts_are = stored_next (λ b. b.first) old.firsts room.firsts 0 k i.done (atom_of a) i.laid.firsts_are j;
                 seconds_are = stored_next (λ b. b.second) old.seconds room.seconds 0 k i.done (atom_of a) i.laid.seconds_are j;
               };
-              whole = rw (i.whole, left, ← e, ← eq, le-ltb q least) (onto_cons _ _ _);
+              whole = rw (i.whole, left, ← e, low_test a last false m) (onto_cons _ _ _);
             }
 
     pub reading_done : n ≤ k → WroteAtoms (atoms_from h n 0 s at) old (Ok next) room

@@ -1,5 +1,5 @@
 // Atom records: a kind and its fields, in strictly ascending order.
-ghost use Rattle.std.specs.Prelude.{◌≡◌, ◌≤◌, ◌<◌};
+ghost use Rattle.std.specs.Prelude.{◌≡◌, ◌≤◌, ◌<◌, ltb};
 ghost use Rattle.table.specs.declared.header.Header.{Header};
 ghost use Rattle.table.specs.Table.{Bound, first_bounds, second_bounds, field, atom, atoms_from};
 ghost use Rattle.table.specs.Says.{field_says, end_of, ends, EndsOf, atom_says, key_of, WroteAtoms};
@@ -41,7 +41,8 @@ fn read_optional(s: &[u8], at: usize, end: u32) -> Result<Item, Refusal>
     read_field(s, at, 0, end - 1)
 }
 
-#[derive(Clone, Copy)]
+// The order of records is that of kinds, then first fields, then second.
+#[derive(Clone, Copy, PartialEq, Eq, PartialOrd, Ord)]
 pub struct AtomRecord {
     pub kind: u16,
     pub first: u16,
@@ -70,12 +71,12 @@ fn read_atom(
     Ok((record, second.next))
 }
 
-// The place of an atom in the order: by kind, then first field, then second.
+// Is an atom further on in the order than one before? The page's `key` is that order as one number.
 #[tactic(auto, unfolding(crate::specs::Table::key))]
-fn key_of(a: AtomRecord) -> u64
-    ensures { (result ≡ key_of a) × (result < 281474976710656) }
+fn is_above(a: AtomRecord, b: AtomRecord) -> bool
+    ensures { result ≡ ltb (key_of b) (key_of a) }
 {
-    u64::from(a.kind) * 4294967296 + u64::from(a.first) * 65536 + u64::from(a.second)
+    a > b
 }
 
 // Reads the atom records into lent room, and answers the place after them.
@@ -86,18 +87,17 @@ pub fn read_atoms(s: &[u8], at: usize, h: Header, room: &mut AtomRoom) -> Result
 {
     let first_ends = first_ends(h);
     let second_ends = second_ends(h);
-    let mut least: u64 = 0;
+    let mut last: Option<AtomRecord> = None;
     let mut next = at;
     for k in 0..usize::from(h.sizes.atoms) {
         let (a, end) = read_atom(s, next, &first_ends, &second_ends)?;
-        let key = key_of(a);
-        if key < least {
+        if last.is_some_and(|b| !is_above(a, b)) {
             return Err(Refusal::NotAbove(next));
         }
         room.kinds[k] = a.kind;
         room.firsts[k] = a.first;
         room.seconds[k] = a.second;
-        least = key + 1;
+        last = Some(a);
         next = end;
     }
     Ok(next)

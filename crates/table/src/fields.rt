@@ -21,10 +21,7 @@ fn refusal_of(fault: Fault, at: usize) -> Refusal
 pub fn read_field(s: &[u8], at: usize, lo: u16, end: u32) -> Result<Item, Refusal>
     ensures { field_says result ≡ bounded lo end s.now at }
 {
-    let item = match numbers::read_number(s, at) {
-        Ok(item) => item,
-        Err(fault) => return Err(refusal_of(fault, at)),
-    };
+    let item = numbers::read_number(s, at).map_err(|fault| refusal_of(fault, at))?;
     if item.value < lo || end <= u32::from(item.value) {
         return Err(Refusal::OutOfRange(at));
     }

@@ -1,7 +1,6 @@
 -- Up to record k the arrays hold the atoms read, each above the one before.
-use Prim.Native.Nat.{◌≤◌}
 use Rattle.table.proofs.AtomRecords.{Reading}
 use Rattle.table.proofs.atoms.read_atoms.Given as goal
 
 abbrev pub invariant-loop-k : goal.invariant-loop-k
-invariant-loop-k l = Reading l.fn.h l.s l.at l.fn.h.sizes.atoms l.initial.room l.room l.k l.least l.next × (l.least ≤ 281474976710656)
+invariant-loop-k l = Reading l.fn.h l.fn.s l.fn.at l.fn.h.sizes.atoms l.initial.room l.room l.k l.last l.next
