@@ -4,8 +4,8 @@ use mathlib.Core.List.{List, [], ◌∷◌, append-nil}
 use Prim.Native.Nat.{ℕ, zero, suc, ◌+◌, ◌-◌, ◌*◌, ◌≤◌, ◌<◌}
 use native.Mathlib.Omega.{arith}
 use native.Mathlib.Numerals.{add-one}
-use lib.ListN.{length, get_or, set, take, drop, length-drop, length-set, length-replicate}
-use lib.Seq.{sets, sets-eq, length-take-le, drop-cons, drop-length, drop-drop}
+use lib.ListN.{length, get_or, set, take, drop, length-set, length-replicate}
+use lib.Seq.{sets, sets-eq, drop-cons, drop-length, drop-drop}
 use Rattle.gdl.specs.Flags.{blank}
 use Rattle.session.specs.declared.Session.{Session}
 use Rattle.session.specs.Bytes.{from_little_endian, from_pairs, session_of}

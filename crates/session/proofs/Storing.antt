@@ -4,7 +4,7 @@ use mathlib.Core.List.{List, [], ◌∷◌, ◌++◌, append_assoc}
 use Prim.Native.Nat.{ℕ, suc, ◌+◌, ◌*◌, ◌/◌, ◌%◌, ◌≤◌, ◌<◌}
 use native.Mathlib.Omega.{arith}
 use native.Mathlib.Numerals.{add-one, unary_clauses}
-use lib.ListN.{length, get_or, set, take, drop, length-append, length-replicate, drop_of_length-le}
+use lib.ListN.{length, get_or, take, drop, length-append, length-replicate, drop_of_length-le}
 use lib.Seq.{sets, length-sets, sets-eq, length-take-le, take_at, take_all, drop-cons, drop-drop}
 use borrow.Rule.Slice.PartMut.{put_mid}
 use Rattle.std.specs.Int.{to_le_bytes, w16, w32}

@@ -1,5 +1,5 @@
 -- A test of the choices with their seats, one after another, is that of every choice.
-use mathlib.Core.Path.{◌≡◌, ◌∙◌}
+use mathlib.Core.Path.{◌≡◌}
 use mathlib.Core.Bool.{true, false}
 use Prim.Native.Nat.{ℕ}
 use borrow.Author.Rules.{rules}
