@@ -1,6 +1,5 @@
 -- Laws of the readers, in the form in which the code's tests and answers meet them.
-use Prim.Native.Nat.{ℕ, ◌≤◌, ◌<◌, ◌-◌}
-use native.Mathlib.Omega.{arith}
+use Prim.Native.Nat.{ℕ, ◌≤◌, ◌<◌}
 use mathlib.Core.Path.{◌≡◌, refl, sym, ap, ◌∙◌}
 use mathlib.Core.List.{List}
 use lib.ListN.{get_or, get_or-map}
@@ -8,11 +7,11 @@ use borrow.Author.Tests.{le-leb, lt-leb, le-ltb, lt-ltb}
 use Rattle.numbers.specs.Number.{number_at}
 use Rattle.numbers.specs.declared.Item.{Item}
 use Rattle.numbers.specs.declared.Fault.{Fault}
-use Rattle.std.specs.Prelude.{Result, Ok, Err}
+use Rattle.std.specs.Prelude.{Option, None, Result, Ok, Err}
 use Rattle.refusals.specs.declared.Refusal.{Refusal}
 use Rattle.refusals.specs.declared.Refusal.TheVariants.{OutOfRange}
 use Rattle.table.specs.Parse.{Parse, ok, fault, refusal_of, bounded}
-use Rattle.table.specs.Table.{Bound, Absent, Below, field, first_bounds, second_bounds, first_bound, second_bound}
+use Rattle.table.specs.Table.{Bound, Absent, field, first_bounds, second_bounds, first_bound, second_bound}
 use Rattle.table.specs.Says.{end_of, ends, EndsOf}
 use Rattle.table.specs.declared.header.Header.{Header}
 
@@ -36,32 +35,19 @@ module _ (s : List ℕ) (at lo end : ℕ) (r : Result Item Fault) (e : r ≡ num
 
 pub ruleset numbers = (number_missing, number_low, number_high, number_in)
 
-module _ (s : List ℕ) (at end : ℕ) where
-  pub absent : end ≡ 0 → (b : Bound) → end_of b ≡ end → ok 0 at ≡ field b s at
-  unfolding field
-  absent z Absent e = refl
-  absent z (Below n) e = absurd (omega arith)
-
-  pub present : (end ≡ 0 → ⊥) → (p : Parse ℕ) → p ≡ bounded 0 (end - 1) s at → (b : Bound) → end_of b ≡ end → p ≡ field b s at
-  unfolding field
-  present nz p e Absent q = absurd (nz (sym q))
-  present nz p e (Below n) q = let x : end - 1 ≡ n = omega arith in rw (e, x) refl
-
-pub ruleset field_laws = (absent, present)
-
-pub both_ends : (h : Header) (firsts seconds : List ℕ) → firsts ≡ ends (first_bounds h) → seconds ≡ ends (second_bounds h) → EndsOf h firsts seconds
+pub both_ends : (h : Header) (firsts seconds : List (Option ℕ)) → firsts ≡ ends (first_bounds h) → seconds ≡ ends (second_bounds h) → EndsOf h firsts seconds
 both_ends h firsts seconds e f = record { firsts_are = e; seconds_are = f }
 
 -- the number of a bound is found at its kind
-end_at : (bounds : List Bound) (l : List ℕ) → l ≡ ends bounds → (kind end : ℕ) → end ≡ get_or l kind 0 → end_of (get_or bounds kind Absent) ≡ end
-end_at bounds l w kind end e = sym (e ∙ ap (λ (x : List ℕ). get_or x kind 0) w ∙ get_or-map end_of bounds kind Absent)
+end_at : (bounds : List Bound) (l : List (Option ℕ)) → l ≡ ends bounds → (kind : ℕ) (end : Option ℕ) → end ≡ get_or l kind None → end_of (get_or bounds kind Absent) ≡ end
+end_at bounds l w kind end e = sym (e ∙ ap (λ (x : List (Option ℕ)). get_or x kind None) w ∙ get_or-map end_of bounds kind Absent)
 
 -- a field that was read up to the number of its bound was read within the bound
-module _ (h : Header) (firsts seconds : List ℕ) (w : EndsOf h firsts seconds) (s : List ℕ) (at kind k : ℕ) (e : k ≡ kind) (p : Parse ℕ) where
-  pub first_read : ((b : Bound) → end_of b ≡ get_or firsts k 0 → p ≡ field b s at) → p ≡ field (first_bound h kind) s at
+module _ (h : Header) (firsts seconds : List (Option ℕ)) (w : EndsOf h firsts seconds) (s : List ℕ) (at kind k : ℕ) (e : k ≡ kind) (p : Parse ℕ) where
+  pub first_read : ((b : Bound) → end_of b ≡ get_or firsts k None → p ≡ field b s at) → p ≡ field (first_bound h kind) s at
   unfolding first_bound
   first_read f = rw e at f (first_bound h kind) (end_at (first_bounds h) firsts w.firsts_are kind _ refl)
 
-  pub second_read : ((b : Bound) → end_of b ≡ get_or seconds k 0 → p ≡ field b s at) → p ≡ field (second_bound h kind) s at
+  pub second_read : ((b : Bound) → end_of b ≡ get_or seconds k None → p ≡ field b s at) → p ≡ field (second_bound h kind) s at
   unfolding second_bound
   second_read f = rw e at f (second_bound h kind) (end_at (second_bounds h) seconds w.seconds_are kind _ refl)

@@ -1,5 +1,5 @@
 -- What the code's answers say: each as the reading that it is, or as arrays that hold what was read.
-use Rattle.std.specs.Prelude.{ℕ, ◌+◌, ◌≡◌, List, map, length, Result, Ok, Err}
+use Rattle.std.specs.Prelude.{ℕ, ◌≡◌, List, map, length, Option, Some, None, Result, Ok, Err}
 use Rattle.std.proofs.lemmas.List.Edits.{sets}
 use Rattle.refusals.specs.declared.Refusal.{Refusal}
 use Rattle.numbers.specs.declared.Item.{Item}
@@ -25,15 +25,15 @@ abbrev pub says : {A : Type 0} → Result (A × ℕ) Refusal → Parse A
 says (Ok x) = ok x.0 x.1
 says (Err f) = fault f
 
--- a bound as one number: 0 for none, else one more than its end
-abbrev pub end_of : Bound → ℕ
-end_of Absent = 0
-end_of (Below n) = n + 1
+-- a bound as the code has it: the end that a field's numbers are below, or none
+abbrev pub end_of : Bound → Option ℕ
+end_of Absent = None
+end_of (Below n) = Some n
 
-abbrev pub ends : List Bound → List ℕ
+abbrev pub ends : List Bound → List (Option ℕ)
 ends l = map end_of l
 
-pub record EndsOf (h : Header) (firsts seconds : List ℕ) : Type 0 where
+pub record EndsOf (h : Header) (firsts seconds : List (Option ℕ)) : Type 0 where
   pub firsts_are : firsts ≡ ends (first_bounds h)
   pub seconds_are : seconds ≡ ends (second_bounds h)
 

@@ -10,35 +10,55 @@ use crate::tables::AtomRoom;
 use numbers::Item;
 use refusals::Refusal;
 
-// What each kind allows in its first field: 0 where the kind lacks it, else one more than the end of its numbers. Made once for a table.
-fn first_ends(h: Header) -> [u32; 10]
+// What each kind allows in its first field: nothing, or numbers below an end. Made once for a table.
+fn first_ends(h: Header) -> [Option<u32>; 10]
     ensures { result ≡ ends (first_bounds h) }
 {
-    let seat = u32::from(h.players.seats) + 1;
-    let fluent = u32::from(h.sizes.fluents) + 1;
+    let seat = Some(u32::from(h.players.seats));
+    let fluent = Some(u32::from(h.sizes.fluents));
     [
-        1025, seat, fluent, fluent, seat, seat, fluent, seat, 0, seat,
+        Some(1024),
+        seat,
+        fluent,
+        fluent,
+        seat,
+        seat,
+        fluent,
+        seat,
+        None,
+        seat,
     ]
 }
 
 // The same of the second field.
-fn second_ends(h: Header) -> [u32; 10]
+fn second_ends(h: Header) -> [Option<u32>; 10]
     ensures { result ≡ ends (second_bounds h) }
 {
-    let choice = u32::from(h.sizes.moves) + 1;
-    let percept = u32::from(h.sizes.percepts) + 1;
-    [1025, 0, 0, 0, choice, choice, 0, percept, 0, 102]
+    let choice = Some(u32::from(h.sizes.moves));
+    let percept = Some(u32::from(h.sizes.percepts));
+    [
+        Some(1024),
+        None,
+        None,
+        None,
+        choice,
+        choice,
+        None,
+        percept,
+        None,
+        Some(101),
+    ]
 }
 
 // A field that a kind may lack: then it counts as 0 and takes no byte.
-#[tactic(auto, using(crate::proofs::Readers::field_laws))]
-fn read_optional(s: &[u8], at: usize, end: u32) -> Result<Item, Refusal>
+#[tactic(auto, unfolding(crate::specs::Table::field))]
+fn read_optional(s: &[u8], at: usize, end: Option<u32>) -> Result<Item, Refusal>
     ensures { (b : Bound) → end_of b ≡ end → field_says result ≡ field b s.now at }
 {
-    if end == 0 {
-        return Ok(Item { value: 0, next: at });
+    match end {
+        Some(end) => read_field(s, at, 0, end),
+        None => Ok(Item { value: 0, next: at }),
     }
-    read_field(s, at, 0, end - 1)
 }
 
 // The order of records is that of kinds, then first fields, then second.
@@ -54,8 +74,8 @@ pub struct AtomRecord {
 fn read_atom(
     s: &[u8],
     at: usize,
-    firsts: &[u32; 10],
-    seconds: &[u32; 10],
+    firsts: &[Option<u32>; 10],
+    seconds: &[Option<u32>; 10],
 ) -> Result<(AtomRecord, usize), Refusal>
     ensures { (h : Header) → EndsOf h firsts.now seconds.now → atom_says result ≡ atom h s.now at }
 {
