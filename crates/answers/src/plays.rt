@@ -23,7 +23,9 @@ fn first_unchosen(choices: [u16; 8], seats: u16) -> Option<usize>
     requires { seats ≤ 8 }
     ensures { IsLowest (lacks choices) seats result }
 {
-    choices[0..usize::from(seats)].iter().position(|choice| *choice == 0)
+    choices[0..usize::from(seats)]
+        .iter()
+        .position(|choice| *choice == 0)
 }
 
 // The lowest seat whose choice is not legal.

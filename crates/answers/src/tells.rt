@@ -21,7 +21,12 @@ use session::shape::{choices_fit, position_fits, shaped};
 use verdict::{Learnt, marks_in};
 
 // "model 14", after 21.
-pub fn model_fit(learnt: &Learnt, position: [u8; 512], choices: [u16; 8], room: &mut [u8]) -> Refusal
+pub fn model_fit(
+    learnt: &Learnt,
+    position: [u8; 512],
+    choices: [u16; 8],
+    room: &mut [u8],
+) -> Refusal
     requires { Asked (found learnt.now) position choices }
     ensures { (G : Game) → Accepted G → found learnt.now ≡ found_in G (model G position choices) → (result, room.new) ≡ truth (fit G) position choices room.old }
 {
