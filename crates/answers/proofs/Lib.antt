@@ -1,6 +1,7 @@
 pub mod Writing
 pub mod Reading
 pub mod Asking
+pub mod Outcomes
 pub mod Offering
 pub mod Opening
 pub mod Looking

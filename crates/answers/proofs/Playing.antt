@@ -17,7 +17,7 @@ use Rattle.gdl.specs.Computed.{model, any_of}
 use Rattle.gdl.proofs.Tests.{and_both}
 use Rattle.gdl.proofs.Walks.{flags_same}
 use Rattle.rules.specs.Accepted.{Accepted}
-use Rattle.session.specs.Shape.{fluent_fits, percept_fits, shaped}
+use Rattle.session.specs.Shape.{fluent_fits, percept_fits}
 use Rattle.session.specs.declared.Session.{Session}
 use Rattle.session.specs.declared.shape.Limits.{Limits}
 use Rattle.session.proofs.Shapes.{shaped_parts, choices_mean}
@@ -27,7 +27,8 @@ use Rattle.calls.specs.Position.{atom_in, moved, played}
 use Rattle.calls.specs.Calls.{unchosen, illegal}
 use Rattle.answers.specs.Lowest.{NoneBelow, Lowest, Chosen, lacks, wrongs}
 use Rattle.answers.proofs.Reading.{wide_at, fits, only_fitting}
-use Rattle.answers.proofs.Asking.{MarksIn, Consults, seats_are, seats_few, legal_mark}
+use Rattle.answers.proofs.Asking.{MarksIn, Consults, legal_mark}
+use Rattle.answers.proofs.Outcomes.{Goes}
 use Rattle.answers.proofs.Opening.{position_is}
 
 -- ---- percepts
@@ -61,9 +62,12 @@ module _ (f : ℕ → Bool) where
 
 -- ---- the tests of play, from what was read
 
-module _ (σ : Session) {c : Consulted} {l : Limits} {G : Game} {ch : List ℕ} (w : Consults c l G σ.position ch) where
+module _ (G : Game) (σ : Session) {l : Limits} (g : Goes G σ l) (ok : Accepted G) where
+  seats_are : l.seats ≡ G.seats
+  seats_are = ap (λ (x : Limits). x.seats) g.limits
+
   here : (f : ℕ → Bool) → lowest f 0 l.seats ≡ lowest f 0 G.seats
-  here f = ap (λ (n : ℕ). lowest f 0 n) (seats_are w.met)
+  here f = ap (λ (n : ℕ). lowest f 0 n) seats_are
 
   pub one_lacks : {r : ℕ} → Lowest (lacks σ.choices) l.seats r → lowest (unchosen σ) 0 G.seats ≡ found r
   one_lacks {r} h = sym (here (unchosen σ)) ∙ lowest_found (unchosen σ) l.seats r h
@@ -72,8 +76,8 @@ module _ (σ : Session) {c : Consulted} {l : Limits} {G : Game} {ch : List ℕ} 
     pub none_lacks : lowest (unchosen σ) 0 G.seats ≡ nowhere
     none_lacks = sym (here (unchosen σ)) ∙ lowest_none (unchosen σ) l.seats none
 
-    pub all_chose : shaped G σ ≡ true → Chosen σ.choices l.seats
-    all_chose t = record { few = seats_few w.met; some = λ s lt. some s (none s lt); within = λ s lt. within s (get_or σ.choices s 0) refl }
+    pub all_chose : Chosen σ.choices l.seats
+    all_chose = record { few = omega (arith, seats_are, ok.limits.seats); some = λ s lt. some s (none s lt); within = λ s lt. within s (get_or σ.choices s 0) refl }
       where
         some : (s : ℕ) → eqb (get_or σ.choices s 0) 0 ≡ false → 1 ≤ get_or σ.choices s 0
         some s n = go (get_or σ.choices s 0) n
@@ -84,22 +88,24 @@ module _ (σ : Session) {c : Consulted} {l : Limits} {G : Game} {ch : List ℕ} 
 
         within : (s x : ℕ) → get_or σ.choices s 0 ≡ x → get_or σ.choices s 0 ≤ 256
         within s zero q = omega (arith, q)
-        within s (suc m) q = omega (arith, q, ((choices_mean G σ.choices).0 (shaped_parts G σ (rw t tt)).choices).moves s m q, w.met.accepted.limits.moves)
+        within s (suc m) q = omega (arith, q, ((choices_mean G σ.choices).0 (shaped_parts G σ (rw g.shape tt)).choices).moves s m q, ok.limits.moves)
 
-  module _ {legals : List ℕ} (el : MarksIn c 5 256 legals) (all : Chosen σ.choices l.seats) where
-    same_test : (s : ℕ) → s < l.seats → wrongs σ.choices legals s ≡ illegal G σ s
-    same_test s lt = ap not (legal_mark w el s (get_or σ.choices s 0 - 1) (omega (arith, all.within s lt, all.some s lt)) (omega (arith, all.few)))
+    module _ {c : Consulted} {ch : List ℕ} (w : Consults c G σ.position ch) {legals : List ℕ} (el : MarksIn c 5 256 legals) where
+      same_test : (s : ℕ) → s < l.seats → wrongs σ.choices legals s ≡ illegal G σ s
+      same_test s lt =
+          let all = all_chose in
+          ap not (legal_mark w el s (get_or σ.choices s 0 - 1) (omega (arith, all.within s lt, all.some s lt)) (omega (arith, all.few)))
 
-    pub one_illegal : {r : ℕ} → Lowest (wrongs σ.choices legals) l.seats r → lowest (illegal G σ) 0 G.seats ≡ found r
-    one_illegal {r} h =
-        sym (here (illegal G σ)) ∙ lowest_found (illegal G σ) l.seats r (record {
-          within = h.within;
-          passes = sym (same_test r h.within) ∙ h.passes;
-          none = λ q lt. sym (same_test q (omega (arith, h.within))) ∙ h.none q lt;
-        })
+      pub one_illegal : {r : ℕ} → Lowest (wrongs σ.choices legals) l.seats r → lowest (illegal G σ) 0 G.seats ≡ found r
+      one_illegal {r} h =
+          sym (here (illegal G σ)) ∙ lowest_found (illegal G σ) l.seats r (record {
+            within = h.within;
+            passes = sym (same_test r h.within) ∙ h.passes;
+            none = λ q lt. sym (same_test q (omega (arith, h.within))) ∙ h.none q lt;
+          })
 
-    pub none_illegal : NoneBelow (wrongs σ.choices legals) l.seats → lowest (illegal G σ) 0 G.seats ≡ nowhere
-    none_illegal h = sym (here (illegal G σ)) ∙ lowest_none (illegal G σ) l.seats (λ q lt. sym (same_test q lt) ∙ h q lt)
+      pub none_illegal : NoneBelow (wrongs σ.choices legals) l.seats → lowest (illegal G σ) 0 G.seats ≡ nowhere
+      none_illegal h = sym (here (illegal G σ)) ∙ lowest_none (illegal G σ) l.seats (λ q lt. sym (same_test q lt) ∙ h q lt)
 
 -- ---- the record after play
 

@@ -25,27 +25,22 @@ use Rattle.calls.specs.Position.{over, legal, goal}
 use Rattle.calls.specs.Message.{counted, percepts_of, legal_of, goals_of, message_numbers}
 use Rattle.calls.specs.Calls.{message}
 use Rattle.answers.proofs.Writing.{message_written}
-use Rattle.answers.proofs.Asking.{MarksIn, Consults, limits_are, seats_few, moves_few, a_seat, over_mark, legal_mark, goal_mark}
+use Rattle.answers.proofs.Asking.{MarksIn, Consults, over_mark, legal_mark, goal_mark}
+use Rattle.answers.proofs.Outcomes.{Below, below_few}
 
-module _ (σ : Session) {c : Consulted} {l : Limits} {G : Game} (w : Consults c l G σ.position (blank 8)) where
-  pub sheet_fits : (z : ℕ) (m : Sheet) → m.seat ≡ z → m.percepts ≡ l.percepts → m.moves ≡ l.moves → z < l.seats → Fits m
-  sheet_fits z m es ep em lt = record {
-    seat = omega (arith, seats_few w.met);
-    percepts = omega (arith, ap (λ (x : Limits). x.percepts) (limits_are w.met), w.met.accepted.limits.percepts);
-    moves = omega (arith, moves_few w.met);
-  }
+module _ (G : Game) (σ : Session) {l : Limits} (here : l ≡ limits_of G) {c : Consulted} (w : Consults c G σ.position (blank 8)) {z row : ℕ} (hz : Below G.seats z row) where
+  small : z < 8
+  small = omega (arith, hz.is, below_few hz w.accepted.limits.seats)
 
-  module _ {z : ℕ} (lt : z < l.seats) {ends legals goals : List ℕ} (ee : MarksIn c 8 1 ends) (el : MarksIn c 5 256 legals) (eg : MarksIn c 9 256 goals) where
+  module _ {ends legals goals : List ℕ} (ee : MarksIn c 8 1 ends) (el : MarksIn c 5 256 legals) (eg : MarksIn c 9 256 goals) where
     pub numbers_are : message_of (record { seat = z; round = σ.round; over = eqb (get_or ends 0 0) 1; percepts = l.percepts; moves = l.moves }) σ.percepts legals goals ≡ message_numbers G σ z
     unfolding message_of message_numbers
     numbers_are =
-        let here : l ≡ limits_of G = limits_are w.met in
-        let small : z < 8 = omega (arith, seats_few w.met) in
         let end : eqb (get_or ends 0 0) 1 ≡ over G σ.position = over_mark w ee in
         let P : those l.percepts (from σ.percepts (z * 256)) ≡ percepts_of G σ z = ap (λ (x : Limits). those x.percepts (from σ.percepts (z * 256))) here in
         let L : those l.moves (from legals (z * 256)) ≡ legal_of G σ z =
         ap (λ (x : Limits). those x.moves (from legals (z * 256))) here ∙ those_same (from legals (z * 256)) (legal G σ.position z) G.moves
-        (λ k kl. legal_mark w el z k (omega (arith, w.met.accepted.limits.moves)) small) in
+        (λ k kl. legal_mark w el z k (omega (arith, w.accepted.limits.moves)) small) in
         let W : those 101 (from goals (z * 256)) ≡ goals_of G σ z =
         those_same (from goals (z * 256)) (goal G σ.position z) 101 (λ k kl. goal_mark w eg z k (omega arith) small) in
         ap (λ (b : Bool). ours b (those l.percepts (from σ.percepts (z * 256))) (those l.moves (from legals (z * 256))) (those 101 (from goals (z * 256)))) end
@@ -65,7 +60,7 @@ module _ (σ : Session) {c : Consulted} {l : Limits} {G : Game} (w : Consults c 
         → (at, now) ≡ written (message_of (record { seat = z; round = σ.round; over = eqb (get_or ends 0 0) 1; percepts = l.percepts; moves = l.moves }) σ.percepts legals goals) (0, room)
         → (record { refusal = Success; length = at }, now) ≡ message (fit G) σ z room
     message_sent room at now a long e =
-        message_written G w.met.accepted σ z room at now a (a_seat w.met z lt) (le-ltb (length room) 1024 long) (e ∙ ap (λ (x : List ℕ). written x (0, room)) numbers_are)
+        message_written G w.accepted σ z room at now a hz.below (le-ltb (length room) 1024 long) (e ∙ ap (λ (x : List ℕ). written x (0, room)) numbers_are)
 
 pub round_fits : (G : Game) (σ : Session) → shaped G σ ≡ true → σ.round ≤ 65535
 round_fits G σ e = (shaped_parts G σ (rw e tt)).round

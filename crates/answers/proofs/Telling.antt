@@ -14,21 +14,21 @@ use Rattle.gdl.specs.Lists.{every}
 use Rattle.gdl.specs.Computed.{model}
 use Rattle.gdl.proofs.Modelled.{model_length}
 use Rattle.rules.specs.Verdict.{fit}
-use Rattle.session.specs.Shape.{flag_fits, below, choice_within, position_shaped, choices_shaped}
+use Rattle.session.specs.Shape.{flag_fits, below, choice_within, position_shaped, choices_shaped, limits_of}
 use Rattle.session.specs.declared.shape.Limits.{Limits}
 use Rattle.verdict.specs.Consulted.{Consulted}
 use Rattle.calls.specs.Position.{moved}
 use Rattle.calls.specs.Calls.{truth}
 use Rattle.calls.proofs.Returns.{model_bad_shape, model_no_room, model_done}
-use Rattle.answers.proofs.Asking.{Consults, limits_are, seats_are, moves_are}
+use Rattle.answers.proofs.Asking.{Consults}
 
 -- ---- the model call
 
-module _ {c : Consulted} {l : Limits} {G : Game} {pos ch : List ℕ} (w : Consults c l G pos ch) (room : List ℕ) where
+module _ (G : Game) {l : Limits} (here : l ≡ limits_of G) {c : Consulted} {pos ch : List ℕ} (w : Consults c G pos ch) (room : List ℕ) where
   module _ {p : Bool} (ep : p ≡ every (flag_fits (below l.fluents)) pos) where
     position_here : p ≡ position_shaped G pos
     unfolding position_shaped
-    position_here = ep ∙ ap (λ (n : ℕ). every (flag_fits (below n)) pos) (ap (λ (x : Limits). x.fluents) (limits_are w.met))
+    position_here = ep ∙ ap (λ (n : ℕ). every (flag_fits (below n)) pos) (ap (λ (x : Limits). x.fluents) here)
 
     pub position_out : p ≡ false → (BadShape, room) ≡ truth (fit G) pos ch room
     position_out n = model_bad_shape G pos ch room (rw (← position_here, n))
@@ -36,7 +36,7 @@ module _ {c : Consulted} {l : Limits} {G : Game} {pos ch : List ℕ} (w : Consul
     module _ (np : p ≡ true) {q : Bool} (eq : q ≡ every (choice_within l.seats l.moves) ch) where
       choices_here : q ≡ choices_shaped G ch
       unfolding choices_shaped
-      choices_here = eq ∙ ap₂ (λ (r m : ℕ). every (choice_within r m) ch) (seats_are w.met) (moves_are w.met)
+      choices_here = eq ∙ ap₂ (λ (r m : ℕ). every (choice_within r m) ch) (ap (λ (x : Limits). x.seats) here) (ap (λ (x : Limits). x.moves) here)
 
       pub choices_out : q ≡ false → (BadShape, room) ≡ truth (fit G) pos ch room
       choices_out n = model_bad_shape G pos ch room (rw (← position_here, np, ← choices_here, n))
@@ -46,12 +46,7 @@ module _ {c : Consulted} {l : Limits} {G : Game} {pos ch : List ℕ} (w : Consul
         good = rw (← position_here, np, ← choices_here, nq)
 
         atoms_here : c.header.sizes.atoms ≡ length G.atoms
-        atoms_here = ap (λ (x : Consulted). x.header.sizes.atoms) w.met.is
-
-        pub flags_long : c.header.sizes.atoms ≤ length c.flags
-        flags_long =
-            let n : length c.flags ≡ length (model G pos ch) + length (blank (1024 - length G.atoms)) = ap (λ (x : Consulted). length x.flags) w.met.is ∙ length-append (model G pos ch) (blank (1024 - length G.atoms)) in
-            omega (arith, model_length G w.met.accepted.valid pos ch, atoms_here)
+        atoms_here = ap (λ (x : Consulted). x.header.sizes.atoms) w.is
 
         pub room_out : length room < c.header.sizes.atoms → (RoomTooShort, room) ≡ truth (fit G) pos ch room
         room_out lt = model_no_room G pos ch room good (lt-ltb (length room) (length G.atoms) (omega (arith, atoms_here)))
@@ -61,6 +56,6 @@ module _ {c : Consulted} {l : Limits} {G : Game} {pos ch : List ℕ} (w : Consul
         model_copied le room' q' =
             let A : ℕ = length G.atoms in
             let f : take A c.flags ≡ model G pos ch =
-            ap (λ (x : Consulted). take A x.flags) w.met.is ∙ (let n : length (model G pos ch) ≡ A = model_length G w.met.accepted.valid pos ch in rw (← n) (take-append_seam (model G pos ch) _)) in
+            ap (λ (x : Consulted). take A x.flags) w.is ∙ (let n : length (model G pos ch) ≡ A = model_length G w.accepted.valid pos ch in rw (← n) (take-append_seam (model G pos ch) _)) in
             let r : room' ≡ model G pos ch ++ drop A room = q' ∙ (rw atoms_here (ap (λ (x : List ℕ). x ++ drop A room) f)) in
             ap (λ (x : List ℕ). (Success, x)) r ∙ model_done G pos ch room good (le-ltb (length room) A (omega (arith, atoms_here)))

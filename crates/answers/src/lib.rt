@@ -6,4 +6,5 @@ pub mod moves; // offer
 pub mod opens; // open
 pub mod plays; // play
 pub mod positions; // limits, and positions from marks
+mod shared; // the tests that several calls make
 pub mod tells; // message and model

@@ -10,6 +10,7 @@ ghost use Rattle.answers.specs.Asked.{Traced};
 ghost use Rattle.answers.specs.Outcome.{looked_from};
 
 use crate::positions::limits_of;
+use crate::shared::{move_in, seat_in};
 use calls::Looked;
 use gdl::kinds::Kind;
 use gdl::{Move, Seat};
@@ -22,18 +23,11 @@ fn looked(learnt: &Learnt, asking: Seat, moving: Seat, choice: Move) -> Result<u
     ensures { (G : Game) → Accepted G → found learnt.now ≡ found_in G (reach_of G asking.0) → looked_from result ≡ hidden_from (fit G) asking.0 moving.0 choice.0 }
 {
     let limits = limits_of(learnt.header);
-    if limits.seats <= asking.0 {
-        return Err(Refusal::NoSuchSeat);
-    }
-    if limits.seats <= moving.0 {
-        return Err(Refusal::NoSuchSeat);
-    }
-    if limits.moves <= choice.0 {
-        return Err(Refusal::NoSuchMove);
-    }
+    seat_in(limits, asking)?;
+    let row = seat_in(limits, moving)?;
+    let column = move_in(limits, choice)?;
     let reached = marks_in(learnt, Kind::Does, 256);
-    let at = usize::from(moving.0) * 256 + usize::from(choice.0);
-    Ok(u8::from(reached[at] != 1))
+    Ok(u8::from(reached[row * 256 + column] != 1))
 }
 
 // "hidden 15 (asking seat, then moving seat), 16".

@@ -10,13 +10,12 @@ ghost use Rattle.calls.specs.Calls.{offer};
 ghost use Rattle.answers.specs.Asked.{Asked};
 ghost use Rattle.answers.specs.Outcome.{moved_from};
 
-use crate::positions::{limits_of, moved_from};
+use crate::shared::{going, move_in, moved_from, seat_in};
 use calls::Moved;
 use gdl::kinds::Kind;
 use gdl::{Move, Seat};
 use refusals::Refusal;
 use session::Session;
-use session::shape::shaped;
 use verdict::{Learnt, marks_in};
 
 // The record with the choice stored.
@@ -24,30 +23,18 @@ fn offered(learnt: &Learnt, session: Session, seat: Seat, choice: Move) -> Resul
     requires { Asked (found learnt.now) session.position (blank 8) }
     ensures { (G : Game) → Accepted G → found learnt.now ≡ found_in G (model G session.position (blank 8)) → moved_from session result ≡ offer (fit G) session seat.0 choice.0 }
 {
-    let limits = limits_of(learnt.header);
-    if !shaped(session, limits) {
-        return Err(Refusal::BadShape);
-    }
-    let ends = marks_in(learnt, Kind::Terminal, 1);
-    if ends[0] == 1 {
-        return Err(Refusal::GameOver);
-    }
-    if limits.seats <= seat.0 {
-        return Err(Refusal::NoSuchSeat);
-    }
-    if limits.moves <= choice.0 {
-        return Err(Refusal::NoSuchMove);
-    }
-    let at = usize::from(seat.0);
+    let limits = going(learnt, session)?;
+    let row = seat_in(limits, seat)?;
+    let column = move_in(limits, choice)?;
     let mut choices = session.choices;
-    if choices[at] != 0 {
+    if choices[row] != 0 {
         return Err(Refusal::AlreadyChosen);
     }
     let legal = marks_in(learnt, Kind::Legal, 256);
-    if legal[at * 256 + usize::from(choice.0)] != 1 {
+    if legal[row * 256 + column] != 1 {
         return Err(Refusal::NotLegal(0));
     }
-    choices[at] = choice.0 + 1;
+    choices[row] = choice.0 + 1;
     Ok(Session { choices, ..session })
 }
 

@@ -10,12 +10,12 @@ ghost use Rattle.answers.specs.Asked.{Asked};
 ghost use Rattle.answers.specs.Lowest.{IsLowest, Chosen, lacks, wrongs};
 ghost use Rattle.answers.specs.Outcome.{moved_from};
 
-use crate::positions::{first_marks, limits_of, moved_from};
+use crate::positions::first_marks;
+use crate::shared::{going, moved_from};
 use calls::Moved;
 use gdl::kinds::Kind;
 use refusals::Refusal;
 use session::Session;
-use session::shape::shaped;
 use verdict::{Learnt, marks_in};
 
 // The lowest seat without a choice.
@@ -47,14 +47,7 @@ fn played(learnt: &Learnt, session: Session) -> Result<Session, Refusal>
     requires { Asked (found learnt.now) session.position session.choices }
     ensures { (G : Game) → Accepted G → found learnt.now ≡ found_in G (model G session.position session.choices) → moved_from session result ≡ play (fit G) session }
 {
-    let limits = limits_of(learnt.header);
-    if !shaped(session, limits) {
-        return Err(Refusal::BadShape);
-    }
-    let ends = marks_in(learnt, Kind::Terminal, 1);
-    if ends[0] == 1 {
-        return Err(Refusal::GameOver);
-    }
+    let limits = going(learnt, session)?;
     let choices = session.choices;
     if let Some(seat) = first_unchosen(choices, limits.seats) {
         return Err(Refusal::NoChoice(seat));

@@ -1,10 +1,6 @@
-// Limits, positions from marks, and a record moved on or handed back as it came.
+// Limits, and positions from marks.
 ghost use Rattle.std.specs.Prelude.{◌≡◌, take};
-ghost use Rattle.answers.specs.Outcome.{moved_from};
 
-use calls::Moved;
-use refusals::Refusal;
-use session::Session;
 use session::shape::Limits;
 use table::header::Header;
 
@@ -27,17 +23,4 @@ pub fn first_marks(marks: &[u8; 2048]) -> [u8; 512]
     let mut position = [0; 512];
     position.copy_from_slice(&marks[0..512]);
     position
-}
-
-// The session that a call goes on with; or a refusal, and the session as it came.
-pub fn moved_from(session: Session, outcome: Result<Session, Refusal>) -> Moved
-    ensures { result ≡ moved_from session outcome }
-{
-    match outcome {
-        Ok(session) => Moved {
-            refusal: Refusal::Success,
-            session,
-        },
-        Err(refusal) => Moved { refusal, session },
-    }
 }

@@ -1,22 +1,34 @@
 -- The tests of hidden in their order, and then the mark of the move in the reach.
-use Rattle.answers.proofs.Asking.{met, no_seat, a_seat, no_move}
+use Rattle.refusals.specs.declared.Refusal.TheVariants.{NoSuchSeat, NoSuchMove}
+use Rattle.gdl.specs.Computed.{reach_of}
+use Rattle.answers.proofs.Asking.{limits_are}
+use Rattle.answers.proofs.Outcomes.{handed_on, no_seat, a_seat, no_move, a_move}
 use Rattle.answers.proofs.Looking.{looked_is}
 use Rattle.calls.proofs.Returns.{hidden_no_asking, hidden_no_moving, hidden_no_move}
 use Rattle.answers.proofs.looks.looked.Goals as goal
 
-pub returns-then-limits-asking : goal.returns-then-limits-asking
-returns-then-limits-asking c = λ G ok e. let w = met c.limits_of-limits.ensures ok e in hidden_no_asking G _ _ _ (no_seat w _ c.if-limits-asking.true)
+pub returns-in_err-seat_in : goal.returns-in_err-seat_in
+returns-in_err-seat_in c =
+    let z = c.args.asking.0 in
+    λ G ok e. let n = no_seat G (limits_are G (reach_of G z) e c.limits_of-limits.ensures) z c.in_err-seat_in.ensures in
+    rw (handed_on _ c.from_residual.ensures.1 NoSuchSeat n.0) (hidden_no_asking G _ _ _ n.1)
 
-pub returns-then-limits-moving : goal.returns-then-limits-moving
-returns-then-limits-moving c =
-    λ G ok e. let w = met c.limits_of-limits.ensures ok e in hidden_no_moving G _ _ _ (a_seat w _ c.if-limits-asking.false) (no_seat w _ c.if-limits-moving.true)
+pub returns-in_err-row : goal.returns-in_err-row
+returns-in_err-row c =
+    let z = c.args.asking.0 in
+    λ G ok e. let l = limits_are G (reach_of G z) e c.limits_of-limits.ensures in let n = no_seat G l c.args.moving.0 c.in_err-row.ensures in
+    rw (handed_on _ c.from_residual-in_err-row.ensures.1 NoSuchSeat n.0) (hidden_no_moving G _ _ _ (a_seat G l z c.in_ok-seat_in.ensures).below n.1)
 
-pub returns-then-limits-choice : goal.returns-then-limits-choice
-returns-then-limits-choice c =
-    λ G ok e. let w = met c.limits_of-limits.ensures ok e in
-    hidden_no_move G _ _ _ (a_seat w _ c.if-limits-asking.false) (a_seat w _ c.if-limits-moving.false) (no_move w _ c.if-limits-choice.true)
+pub returns-in_err-column : goal.returns-in_err-column
+returns-in_err-column c =
+    let z = c.args.asking.0 in
+    λ G ok e. let l = limits_are G (reach_of G z) e c.limits_of-limits.ensures in let n = no_move G l c.args.choice.0 c.in_err-column.ensures in
+    rw (handed_on _ c.from_residual-in_err-column.ensures.1 NoSuchMove n.0)
+    (hidden_no_move G _ _ _ (a_seat G l z c.in_ok-seat_in.ensures).below (a_seat G l c.args.moving.0 c.in_ok-row.ensures).below n.1)
 
 pub returns : goal.returns
 returns c =
-    λ G ok e. let w = met c.limits_of-limits.ensures ok e in
-    looked_is c.args.asking.0 w c.if-limits-moving.false c.if-limits-choice.false c.marks_in-reached.ensures c.from.ensures c.from-2.ensures c.if-limits-asking.false _ c.from-3.ensures
+    let z = c.args.asking.0 in
+    λ G ok e. let l = limits_are G (reach_of G z) e c.limits_of-limits.ensures in
+    looked_is G z ok e (a_seat G l c.args.moving.0 c.in_ok-row.ensures) (a_move G l c.args.choice.0 c.in_ok-column.ensures) c.marks_in-reached.ensures
+    (a_seat G l z c.in_ok-seat_in.ensures).below _ c.from.ensures

@@ -1,29 +1,31 @@
 -- The tests of model in their order, and then the flags copied.
 use native.Mathlib.Omega.{arith}
 use borrow.Author.Rules.{rules}
-use Rattle.answers.proofs.Asking.{consults}
-use Rattle.answers.proofs.Telling.{position_out, choices_out, room_out, flags_long, model_copied}
+use Rattle.gdl.specs.Computed.{model}
+use Rattle.answers.proofs.Asking.{limits_are, consults}
+use Rattle.answers.proofs.Telling.{position_out, choices_out, room_out, model_copied}
 use Rattle.answers.proofs.tells.model_fit.Goals as goal
 
 pub returns-then-not-position_fits : goal.returns-then-not-position_fits
 returns-then-not-position_fits c =
     let a = c.args in
-    λ G ok e. position_out (consults a.position a.choices c.limits_of-limits.ensures ok e) a.room.now c.position_fits.ensures c.if-not-position_fits.true
+    λ G ok e. position_out G (limits_are G (model G a.position a.choices) e c.limits_of-limits.ensures) (consults G a.position a.choices ok e) a.room.now
+    c.position_fits.ensures c.if-not-position_fits.true
 
 pub returns-then-not-choices_fit : goal.returns-then-not-choices_fit
 returns-then-not-choices_fit c =
     let a = c.args in
-    λ G ok e. choices_out (consults a.position a.choices c.limits_of-limits.ensures ok e) a.room.now c.position_fits.ensures c.if-not-position_fits.false
-    c.choices_fit.ensures c.if-not-choices_fit.true
+    λ G ok e. choices_out G (limits_are G (model G a.position a.choices) e c.limits_of-limits.ensures) (consults G a.position a.choices ok e) a.room.now
+    c.position_fits.ensures c.if-not-position_fits.false c.choices_fit.ensures c.if-not-choices_fit.true
 
 pub returns-then-room-atoms : goal.returns-then-room-atoms
 returns-then-room-atoms c =
     let a = c.args in
-    λ G ok e. room_out (consults a.position a.choices c.limits_of-limits.ensures ok e) a.room.now c.position_fits.ensures c.if-not-position_fits.false
-    c.choices_fit.ensures c.if-not-choices_fit.false (omega arith)
+    λ G ok e. room_out G (limits_are G (model G a.position a.choices) e c.limits_of-limits.ensures) (consults G a.position a.choices ok e) a.room.now
+    c.position_fits.ensures c.if-not-position_fits.false c.choices_fit.ensures c.if-not-choices_fit.false (omega arith)
 
 pub returns : goal.returns
 returns c =
     let a = c.args in
-    λ G ok e. model_copied (consults a.position a.choices c.limits_of-limits.ensures ok e) a.room.now c.position_fits.ensures c.if-not-position_fits.false
-    c.choices_fit.ensures c.if-not-choices_fit.false (omega arith) _ (search rules)
+    λ G ok e. model_copied G (limits_are G (model G a.position a.choices) e c.limits_of-limits.ensures) (consults G a.position a.choices ok e) a.room.now
+    c.position_fits.ensures c.if-not-position_fits.false c.choices_fit.ensures c.if-not-choices_fit.false (omega arith) _ (search rules)

@@ -1,0 +1,65 @@
+// The tests that several calls make, and the record that offer and play answer.
+ghost use Rattle.std.specs.Prelude.{◌≡◌, List, ℕ};
+ghost use Rattle.gdl.specs.Game.{Game};
+ghost use Rattle.gdl.specs.Computed.{model};
+ghost use Rattle.rules.specs.Accepted.{Accepted};
+ghost use Rattle.verdict.specs.Consulted.{found, found_in, Fit};
+ghost use Rattle.answers.specs.Outcome.{going, seat_in, move_in, moved_from};
+
+use crate::positions::limits_of;
+use calls::Moved;
+use gdl::kinds::Kind;
+use gdl::{Move, Seat};
+use refusals::Refusal;
+use session::Session;
+use session::shape::{Limits, shaped};
+use verdict::{Learnt, marks_in};
+
+// "BadShape", then "GameOver": the limits of the table, where the record has its shape and the game goes on. Offer and play begin so.
+pub fn going(learnt: &Learnt, session: Session) -> Result<Limits, Refusal>
+    requires { Fit (found learnt.now) }
+    ensures { (G : Game) (choices : List ℕ) → Accepted G → found learnt.now ≡ found_in G (model G session.position choices) → result ≡ going G session }
+{
+    let limits = limits_of(learnt.header);
+    if !shaped(session, limits) {
+        return Err(Refusal::BadShape);
+    }
+    let ends = marks_in(learnt, Kind::Terminal, 1);
+    if ends[0] == 1 {
+        return Err(Refusal::GameOver);
+    }
+    Ok(limits)
+}
+
+// "NoSuchSeat": the seat as a place.
+pub fn seat_in(limits: Limits, seat: Seat) -> Result<usize, Refusal>
+    ensures { result ≡ seat_in limits seat.0 }
+{
+    if limits.seats <= seat.0 {
+        return Err(Refusal::NoSuchSeat);
+    }
+    Ok(usize::from(seat.0))
+}
+
+// "NoSuchMove": the move as a place.
+pub fn move_in(limits: Limits, choice: Move) -> Result<usize, Refusal>
+    ensures { result ≡ move_in limits choice.0 }
+{
+    if limits.moves <= choice.0 {
+        return Err(Refusal::NoSuchMove);
+    }
+    Ok(usize::from(choice.0))
+}
+
+// The session that a call goes on with; or a refusal, and the session as it came.
+pub fn moved_from(session: Session, outcome: Result<Session, Refusal>) -> Moved
+    ensures { result ≡ moved_from session outcome }
+{
+    match outcome {
+        Ok(session) => Moved {
+            refusal: Refusal::Success,
+            session,
+        },
+        Err(refusal) => Moved { refusal, session },
+    }
+}
