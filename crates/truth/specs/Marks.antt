@@ -1,6 +1,7 @@
 -- Which fields the atoms of a kind have that are in a set: one mark for each.
 use Rattle.std.specs.Prelude.{◌≡◌, Bool, ◌&&◌, List, ℕ, ◌+◌, ◌*◌, ◌≤◌, eqb, length}
 use Rattle.gdl.specs.Game.{Atom}
+use Rattle.gdl.specs.declared.arrays.AtomArrays.{AtomArrays}
 use Rattle.gdl.specs.Sets.{Atoms}
 use Rattle.gdl.specs.Lists.{flags}
 use Rattle.gdl.specs.Computed.{any_of}
@@ -25,3 +26,7 @@ pub record Columns (kinds firsts seconds : List ℕ) : Type 0 where
 pub record Marking (kinds firsts seconds : List ℕ) (width : ℕ) : Type 0 where
   pub columns : Columns kinds firsts seconds
   pub narrow : width ≤ 256
+
+-- the same of arrays that are passed together
+abbrev pub Markable : AtomArrays → ℕ → Type 0
+Markable a width = Marking a.kinds.now a.firsts.now a.seconds.now width

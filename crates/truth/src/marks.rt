@@ -2,8 +2,8 @@
 ghost use Rattle.std.specs.Prelude.{◌≡◌};
 ghost use Rattle.gdl.specs.Flags.{on};
 ghost use Rattle.gdl.specs.Kinds.{kind_number};
-ghost use Rattle.truth.specs.Reading.{atoms_of};
-ghost use Rattle.truth.specs.Marks.{marks_of, Marking};
+ghost use Rattle.truth.specs.Reading.{atoms_in};
+ghost use Rattle.truth.specs.Marks.{marks_of, Markable};
 
 use gdl::arrays::AtomArrays;
 use gdl::kinds::Kind;
@@ -11,8 +11,8 @@ use gdl::kinds::Kind;
 // Marks place first * width + second for each atom of the kind whose flag is 1; a place from 2,048 on is passed over. One visit an atom.
 #[tactic(auto, using(crate::proofs::Marked::markings))]
 pub fn marks_of(atoms: &AtomArrays, flags: &[u8; 1024], kind: Kind, width: usize) -> [u8; 2048]
-    requires { Marking atoms.now.kinds.now atoms.now.firsts.now atoms.now.seconds.now width }
-    ensures { result ≡ marks_of (kind_number kind) width (atoms_of atoms.now.kinds.now atoms.now.firsts.now atoms.now.seconds.now) (on flags.now) }
+    requires { Markable atoms.now width }
+    ensures { result ≡ marks_of (kind_number kind) width (atoms_in atoms.now) (on flags.now) }
 {
     let mut marks = [0; 2048];
     for i in 0..atoms.kinds.len() {
