@@ -16,8 +16,7 @@ use Rattle.gdl.specs.Flags.{bit}
 use Rattle.gdl.specs.Lists.{every_from, every}
 use Rattle.session.specs.Shape.{below, in_grid, flag_fits, choice_within, position_shaped, choices_shaped, percepts_shaped, shaped, limits_of}
 use Rattle.session.specs.Runs.{Bounds, Run, RunIf, Fitting}
-use Rattle.std.specs.Bool.{MatchBool}
-use Rattle.std.specs.List.{enumerate_from, AllWithin, HoldsAt}
+use Rattle.std.specs.List.{list_all, enumerate_from}
 use Rattle.session.specs.declared.Session.{Session}
 use Rattle.session.specs.declared.shape.Limits.{Limits}
 
@@ -62,26 +61,10 @@ module _ (f : ℕ → ℕ → Bool) (l : List ℕ) where
 
 pub ruleset testings = (testing_starts, testing_stops, testing_goes, testing_jumps, testing_stuck, testing_ends)
 
-never : (b : Bool) → (b && false) ≡ false
-never true = refl
-never false = refl
-
--- the same test over the elements with their places: all pass, or one that doesn't
-pub every_cases : (f : ℕ → ℕ → Bool) (l : List ℕ) (r : Bool)
-    → MatchBool r (AllWithin (λ (p : ℕ × ℕ). f p.0 p.1 ≡ true) (enumerate_from 0 l) 0 (length (enumerate_from 0 l)))
-    ((k : ℕ) × (k < length (enumerate_from 0 l)) × HoldsAt (λ (p : ℕ × ℕ). f p.0 p.1 ≡ false) (enumerate_from 0 l) k)
-    → r ≡ every f l
-every_cases f l true all = sym (each 0 l (λ k lt. all k (0, 0) (omega arith) lt))
-  where
-    each : (i : ℕ) (l : List ℕ) → ((k : ℕ) → k < length (enumerate_from i l) → f (get_or (enumerate_from i l) k (0, 0)).0 (get_or (enumerate_from i l) k (0, 0)).1 ≡ true) → every_from f i l ≡ true
-    each i [] h = refl
-    each i (x ∷ l) h = rw (h 0 (omega arith), ← add-one i) (each (i + 1) l (λ k lt. h (suc k) (omega arith)))
-every_cases f l false some = sym (one 0 l some.0 some.1 (some.2 (0, 0)))
-  where
-    one : (i : ℕ) (l : List ℕ) (k : ℕ) → k < length (enumerate_from i l) → f (get_or (enumerate_from i l) k (0, 0)).0 (get_or (enumerate_from i l) k (0, 0)).1 ≡ false → every_from f i l ≡ false
-    one i [] k lt e = absurd (omega arith)
-    one i (x ∷ l) zero lt e = rw e
-    one i (x ∷ l) (suc k) lt e = rw (← add-one i, one (i + 1) l k (omega arith) e) (never (f i x))
+-- the same test over the elements with their places
+pub every_listed : (f : ℕ → ℕ → Bool) (i : ℕ) (l : List ℕ) → list_all (λ (p : ℕ × ℕ). f p.0 p.1) (enumerate_from i l) ≡ every_from f i l
+every_listed f i [] = refl
+every_listed f i (x ∷ l) = ap (λ (b : Bool). f i x && b) (rw (← add-one i) (every_listed f (i + 1) l))
 
 -- ---- one element
 
