@@ -1,9 +1,11 @@
 -- The turn of an atom: what the bodies of its clauses bring in, and what it brings in if it is true(f).
 use mathlib.Core.Path.{◌≡◌, sym, ap, subst, ◌∙◌}
+use mathlib.Core.List.{List}
 use Prim.Native.Nat.{ℕ, suc, ◌+◌, ◌-◌, ◌/◌, ◌<◌, ◌≤◌}
 use native.Mathlib.Omega.{arith}
 use native.Mathlib.Decide.{ℕ_discrete}
-use lib.ListN.{length, get_or}
+use lib.ListN.{length, get_or, take, drop, length-take}
+use lib.Seq.{get_or-take, get_or-drop}
 use mir.Syntax.{w64}
 use mir.Val.{Fits}
 use Rattle.gdl.specs.declared.arrays.AtomArrays.{AtomArrays}
@@ -18,6 +20,14 @@ use Rattle.reach.specs.Onward.{Onward, Follows}
 use Rattle.reach.specs.declared.steps.Steps.{Steps}
 
 -- ---- the body of a clause
+
+-- place i of the part of a list from a up to b
+module _ (l : List ℕ) (a b i : ℕ) (lt : i < length (take (b - a) (drop a l))) where
+  pub part_within : a + i < b
+  part_within = omega (arith, length-take (b - a) (drop a l))
+
+  pub part_at : get_or (take (b - a) (drop a l)) i 0 ≡ get_or l (a + i) 0
+  part_at = get_or-take (b - a) (drop a l) i 0 (omega (arith, part_within)) ∙ get_or-drop a l i 0
 
 -- its atoms before place j are marked
 pub record BodyBrought (c : ClauseArrays) (k : ℕ) (w₀ w : Worklist) (j : ℕ) : Type 0 where

@@ -152,6 +152,7 @@ module _ (atoms : AtomArrays) (clauses : ClauseArrays) (w : Ready atoms clauses)
         atoms = λ c lt. omega (arith, laid_head w.laid c, w.small.heads_in (clause_at w.game c) (at_mem no_clause w.game.clauses c (omega (arith, laid_many w.laid))), w.small.few_atoms);
       };
       long = rw (w.laid.is_starts, laid_many w.laid, starts_long_lem, add-one);
+      rising = λ c lt. omega (arith, laid_end w.laid c (omega (arith, laid_many w.laid)));
       ends = λ c lt. rw (w.laid.is_starts, w.laid.is_literals, add-one) (omega (arith, starts_end 0 w.game.clauses (suc c) (omega (arith, laid_many w.laid))));
       few = rw w.laid.is_literals w.small.few_literals;
       atoms = λ k lt. omega (arith, in_table k lt, w.small.few_atoms);

@@ -53,6 +53,7 @@ Indexed heads first next = ClausesFrom heads first next 0
 pub record Clauses (c : ClauseArrays) : Type 0 where
   pub is_heads : Heads c.heads.now
   pub long : length c.starts.now ≡ length c.heads.now + 1
+  pub rising : (k : ℕ) → k < length c.heads.now → get_or c.starts.now k 0 ≤ get_or c.starts.now (k + 1) 0
   pub ends : (k : ℕ) → k < length c.heads.now → get_or c.starts.now (k + 1) 0 ≤ length c.literals.now
   pub few : length c.literals.now ≤ 8192
   pub atoms : (j : ℕ) → j < length c.literals.now → get_or c.literals.now j 0 / 2 < 1024

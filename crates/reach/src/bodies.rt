@@ -26,8 +26,8 @@ fn bring_body(steps: &Steps, c: usize, work: &mut Worklist)
 {
     let start = usize::from(steps.clauses.starts[c]);
     let end = usize::from(steps.clauses.starts[c + 1]);
-    for k in start..end {
-        let h = usize::from(steps.clauses.literals[k] / 2);
+    for &literal in &steps.clauses.literals[start..end] {
+        let h = usize::from(literal / 2);
         work.mark(h);
     }
 }

@@ -1,6 +1,7 @@
--- The atoms of the body before place k are marked.
+-- The atoms of the body so far are marked.
+use Prim.Native.Nat.{◌+◌}
 use Rattle.reach.proofs.Bringing.{BodyBrought}
 use Rattle.reach.proofs.bodies.bring_body.Given as goal
 
-abbrev pub invariant-loop-k : goal.invariant-loop-k
-invariant-loop-k l = BodyBrought l.steps.clauses l.c l.initial.work l.work l.k
+abbrev pub invariant-loop-literal : goal.invariant-loop-literal
+invariant-loop-literal l = BodyBrought l.steps.clauses l.c l.initial.work l.work (l.start + l.literal-index)
