@@ -1,54 +1,20 @@
--- Laws of the tests of one clause: what each asks for, and that it strikes exactly where its rule is broken.
+-- Laws of the tests of one clause: each strikes exactly where its rule is broken.
 use mathlib.Core.Path.{◌≡◌, sym, ap, ap₂, ◌∙◌}
-use mathlib.Core.Bool.{Bool, ◌&&◌}
-use mathlib.Core.List.{List, [], ◌∷◌}
-use Prim.Native.Nat.{ℕ, zero, suc, ◌+◌, ◌-◌, ◌/◌, ◌≤◌, ◌<◌}
+use mathlib.Core.Bool.{◌&&◌}
+use mathlib.Core.List.{[], ◌∷◌}
+use Prim.Native.Nat.{ℕ, zero, suc, ◌+◌, ◌<◌}
 use native.Mathlib.Omega.{arith}
 use lib.Dec.{eqb, ltb}
 use borrow.Author.Tests.{lt-ltb, le-ltb}
-use lib.ListN.{length, get_or, take, drop, length-take, length-drop}
-use lib.Seq.{get_or-take, get_or-drop}
+use lib.ListN.{length, get_or}
 use Rattle.gdl.specs.Game.{Game, role_kind, init_kind, true_kind, does_kind, next_kind, sees_kind, clause_at, kind_of}
 use Rattle.gdl.specs.declared.arrays.AtomArrays.{AtomArrays}
 use Rattle.gdl.specs.declared.arrays.ClauseArrays.{ClauseArrays}
-use Rattle.rules.specs.Rules.{some, one_of, RoleBroken, HeadBroken, BodyBroken}
-use Rattle.judge.specs.Arrays.{HeldClauses, LiteralsOver, ClausesShaped, ClauseAsked, head_kind, role_with_body, never_head, never_in_body, body_at}
+use Rattle.rules.specs.Rules.{one_of, RoleBroken, HeadBroken, BodyBroken}
+use Rattle.judge.specs.Arrays.{HeldClauses, head_kind, role_with_body, never_head, never_in_body}
 use Rattle.rules.proofs.Judging.{Exact, role_exact, head_exact, body_exact}
 use Rattle.judge.proofs.Searching.{exact_as}
 use Rattle.judge.proofs.Holding.{clauses_held, kind_held, head_held, end_held, body_held, some_held}
-
--- ---- what the tests ask for
-
-pub part_over : (kinds literals : List ℕ) → LiteralsOver kinds literals → (s n : ℕ) → LiteralsOver kinds (take n (drop s literals))
-part_over kinds literals h s n = record {
-  atoms = λ k lt.
-      let m : k < n = omega (arith, simp (length-take, length-drop) at lt) in
-      let l : s + k < length literals = omega (arith, simp (length-take, length-drop) at lt) in
-      rw (get_or-take n (drop s literals) k 0 m, get_or-drop s literals k 0) (h.atoms (s + k) l);
-}
-
-pub asked_clause : (a : AtomArrays) (c : ClauseArrays) → ClausesShaped a c → (i : ℕ) → i < length c.heads.now → ClauseAsked a c i
-asked_clause a c s i lt = record { shaped = s; clause = lt }
-
-module _ (a : AtomArrays) (c : ClauseArrays) (i : ℕ) (q : ClauseAsked a c i) where
-  pub asked_head : get_or c.heads.now i 0 < length a.kinds.now
-  asked_head = q.shaped.head_atoms i q.clause
-
-  pub asked_end : i + 1 < length c.starts.now
-  asked_end = omega (arith, q.clause, q.shaped.long)
-
-  pub asked_rising : get_or c.starts.now i 0 ≤ get_or c.starts.now (i + 1) 0
-  asked_rising = q.shaped.rising i q.clause
-
-  pub asked_part : get_or c.starts.now (i + 1) 0 ≤ length c.literals.now
-  asked_part = q.shaped.ends i q.clause
-
-  pub asked_over : (s n : ℕ) → LiteralsOver a.kinds.now (take n (drop s c.literals.now))
-  asked_over = part_over a.kinds.now c.literals.now q.shaped.body_atoms
-
-pub ruleset asking = (asked_clause, asked_head, asked_end, asked_rising, asked_part, asked_over)
-
--- ---- what they tell of the rules
 
 module _ (a : AtomArrays) (c : ClauseArrays) (G : Game) (h : HeldClauses a c G) where
   many : length c.heads.now ≡ length G.clauses

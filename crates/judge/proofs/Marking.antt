@@ -1,22 +1,20 @@
 -- Laws of the search for an atom of these kinds that depends on one of those.
-use mathlib.Core.Path.{◌≡◌, refl, sym, ap, subst, ◌∙◌}
+use mathlib.Core.Path.{◌≡◌, refl, sym, subst, ◌∙◌}
 use mathlib.Core.Logic.{◌⊎◌, inl, inr, ◌↔◌}
 use mathlib.Core.Bool.{Bool, true, false, ◌&&◌}
 use mathlib.Core.List.{List}
-use Prim.Native.Nat.{ℕ, zero, suc, ◌+◌, ◌≤◌, ◌<◌}
+use Prim.Native.Nat.{ℕ, zero, suc, ◌≤◌, ◌<◌}
 use native.Mathlib.Nat.{not-suc-le-zero}
 use native.Mathlib.Omega.{arith}
-use native.Mathlib.Decide.{ℕ_discrete, dec_lt}
 use lib.Dec.{T, eqb→eq}
-use lib.ListN.{length, get_or, set, length-map, length-set, length-replicate}
-use lib.Seq.{get_or-set_same, get_or-set_other}
+use lib.ListN.{length, get_or, length-map, length-replicate}
 use Rattle.gdl.specs.Game.{Game, kind_of}
 use Rattle.gdl.specs.Flags.{on, bit, blank}
 use Rattle.gdl.specs.Graph.{itself, Depends}
 use Rattle.gdl.proofs.Tests.{and_left, and_right, and_both, eq→eqb}
 use Rattle.edges.specs.Graph.{Drawn}
 use Rattle.edges.specs.Closure.{ClosedBack}
-use Rattle.edges.specs.Queue.{no_marks, Seeded}
+use Rattle.edges.specs.Queue.{no_marks}
 use Rattle.edges.proofs.Drawing.{clauses_drawn}
 use Rattle.edges.proofs.Depending.{OnSeed, closed_back}
 use Rattle.rules.specs.Rules.{one_of, Leans}
@@ -40,17 +38,6 @@ module _ (kinds those : List ℕ) where
     long = rw e (length-replicate {A = ℕ} 1024 0);
     at = λ p lt. absurd (not-suc-le-zero lt);
     past = λ p le. rw e (no_mark 1024 p);
-  }
-
-  pub sown_more : (p : ℕ) (r : List ℕ) → Sown kinds those p r → p < length kinds → length kinds ≤ 1024 → (b : Bool) (x : ℕ)
-      → b ≡ one_of those (get_or kinds p 0) → x ≡ bit b → Sown kinds those (p + 1) (set r p x)
-  sown_more p r s lt le b x eb ex = record {
-    long = length-set r p x ∙ s.long;
-    at = λ q l. elim (ℕ_discrete q p) [
-      | yes e ↦ subst (λ (j : ℕ). get_or (set r p x) j 0 ≡ bit (one_of those (get_or kinds j 0))) (sym e) (get_or-set_same r p x 0 (omega (arith, s.long)) ∙ ex ∙ ap bit eb)
-      | no ne ↦ get_or-set_other r p q x 0 ne ∙ s.at q (omega arith)
-    ];
-    past = λ q l. get_or-set_other r p q x 0 (λ e. omega arith) ∙ s.past q (omega arith);
   }
 
   pub sown_all : (p : ℕ) (r : List ℕ) → Sown kinds those p r → p ≤ length kinds → length kinds ≤ p → Sown kinds those (length kinds) r
@@ -83,21 +70,6 @@ module _ (kinds owners literals : List ℕ) (G : Game) (h : HeldEdges kinds owne
   pub held_drawn : Drawn itself G.clauses owners literals (length kinds)
   held_drawn = rw (h.owners_are, h.literals_are, kinds_many) (clauses_drawn G.clauses (length G.atoms) h.limits.heads)
 
-pub sown_seeded : (kinds owners literals those seeds : List ℕ) → EdgesShaped kinds owners literals → Sown kinds those (length kinds) seeds → Seeded seeds (length kinds)
-sown_seeded kinds owners literals those seeds a s = record {
-  few = a.atoms;
-  long = s.long;
-  flags = λ p. elim (dec_lt p (length kinds)) [
-    | yes lt ↦ rw (s.at p lt) (small (one_of those (get_or kinds p 0)))
-    | no ge ↦ omega (arith, s.past p (omega arith))
-  ];
-  past = s.past;
-}
-  where
-    small : (b : Bool) → bit b ≤ 1
-    small true = omega arith
-    small false = omega arith
-
 pub seeds_marked : (kinds owners literals those seeds marks : List ℕ) → EdgesShaped kinds owners literals → Sown kinds those (length kinds) seeds → ClosedBack owners literals seeds marks
     → MarksOf (HeldEdges kinds owners literals) those marks
 seeds_marked kinds owners literals those seeds marks a s c = record { rests = λ G h p. (λ t. there G h p ((closed G h p).0 t), λ r. (closed G h p).1 (back G h p r)) }
@@ -116,8 +88,6 @@ seeds_marked kinds owners literals those seeds marks a s c = record { rests = λ
       is_seed = sown_on kinds those seeds s r.on (omega (arith, kinds_many kinds owners literals G h, r.atom)) (subst (λ (j : ℕ). T (one_of those j)) (sym (kind_held G kinds h.kinds_are r.on)) r.kind);
       way = r.way;
     }
-
-pub ruleset marking = (sown_start, sown_more, sown_all, sown_seeded, seeds_marked)
 
 -- ---- an atom of these kinds that leans
 

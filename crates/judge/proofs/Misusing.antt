@@ -1,21 +1,17 @@
 -- Laws of rule 8 by first uses: where no atom of its kinds has one, no clause breaks it.
 use mathlib.Core.Path.{◌≡◌, sym, ap, subst, ◌∙◌}
-use mathlib.Core.Bool.{Bool, true, false, ◌&&◌}
+use mathlib.Core.Bool.{false, ◌&&◌}
 use mathlib.Core.List.{List, [], ◌∷◌, Memᴰ}
-use Prim.Native.Nat.{ℕ, ◌+◌, ◌/◌, ◌≤◌, ◌<◌}
-use native.Mathlib.Nat.{not-suc-le-zero}
+use Prim.Native.Nat.{ℕ, ◌/◌, ◌<◌}
 use native.Mathlib.Omega.{arith}
-use lib.Dec.{T, ltb, ltb→lt}
+use lib.Dec.{T, ltb}
 use lib.ListN.{length, get_or}
-use borrow.Author.Tests.{lt-ltb}
 use Rattle.std.specs.Prelude.{None}
-use borrow.Author.Count.{below_more}
 use Rattle.gdl.specs.Game.{Clause, Game, init_kind, next_kind, sees_kind, atom_of, clause_at}
 use Rattle.gdl.specs.declared.arrays.AtomArrays.{AtomArrays}
 use Rattle.gdl.specs.declared.arrays.ClauseArrays.{ClauseArrays}
 use Rattle.gdl.specs.Graph.{itself}
 use Rattle.gdl.specs.Layout.{code_of, owners_of}
-use Rattle.gdl.proofs.Tests.{and_left, and_right, and_both}
 use Rattle.edges.specs.Graph.{Has, end_of}
 use Rattle.edges.specs.Uses.{FirstEnd}
 use Rattle.edges.specs.declared.Edges.{Edges}
@@ -34,34 +30,6 @@ bodyless = init_kind ∷ next_kind ∷ sees_kind ∷ []
 -- none of the first p atoms is misused
 pub record Unused (kinds first : List ℕ) (many p : ℕ) : Type 0 where
   pub none : (q : ℕ) → q < p → T (ltb (get_or first q 0) many && one_of bodyless (get_or kinds q 0)) → ⊥
-
-module _ (kinds first : List ℕ) (many : ℕ) where
-  pub unused_start : Unused kinds first many 0
-  unused_start = record { none = λ q lt. absurd (not-suc-le-zero lt) }
-
-  module _ (p : ℕ) (u : Unused kinds first many p) where
-    module _ (b : Bool) (e : b ≡ (ltb (get_or first p 0) many && one_of bodyless (get_or kinds p 0))) where
-      pub unused_more : b ≡ false → Unused kinds first many (p + 1)
-      unused_more f = record { none = below_more _ p u.none (λ t. subst T (sym e ∙ f) t) }
-
-      pub unused_not : p < length kinds → b ≡ true → AnyMisused kinds first many true
-      unused_not lt t =
-          let both = subst T (sym t ∙ e) tt in
-          record {
-            tells = record {
-              atom = p;
-              within = lt;
-              kind = and_right (ltb (get_or first p 0) many) (one_of bodyless (get_or kinds p 0)) both;
-              used = ltb→lt (get_or first p 0) many (and_left (ltb (get_or first p 0) many) (one_of bodyless (get_or kinds p 0)) both);
-            };
-          }
-
-    pub unused_all : length kinds ≤ p → AnyMisused kinds first many false
-    unused_all le = record {
-      tells = λ m. u.none m.atom (omega (arith, m.within)) (and_both (ltb (get_or first m.atom 0) many) (one_of bodyless (get_or kinds m.atom 0)) (rw (lt-ltb (get_or first m.atom 0) many m.used) tt) m.kind);
-    }
-
-pub ruleset misusing = (unused_start, unused_more, unused_not, unused_all)
 
 -- ---- the rule
 

@@ -1,7 +1,7 @@
 -- Laws of rule 11 on arrays: the levels in 1,024 places, of which the atoms have the first.
 use mathlib.Core.Path.{◌≡◌, refl, sym, ap, subst, ◌∙◌}
 use mathlib.Core.List.{List, [], ◌∷◌, ◌++◌, Memᴰ}
-use Prim.Native.Nat.{ℕ, zero, suc, ◌+◌, ◌-◌, ◌≤◌, ◌<◌}
+use Prim.Native.Nat.{ℕ, zero, suc, ◌+◌, ◌≤◌, ◌<◌}
 use native.Mathlib.Omega.{arith}
 use lib.ListN.{length, take, drop, length-append, length-drop, length-replicate, get_or-eq_default}
 use lib.Seq.{length-take-le, get_or-drop, ext_get_or}
@@ -11,7 +11,7 @@ use Rattle.gdl.specs.Graph.{itself}
 use Rattle.gdl.specs.Flags.{blank}
 use Rattle.gdl.specs.Computed.{look}
 use Rattle.gdl.proofs.Levelling.{levels_no_cycle}
-use Rattle.levels.specs.Numbering.{Answers, Numbers, Asked}
+use Rattle.levels.specs.Numbering.{Answers, Numbers}
 use Rattle.std.specs.Prelude.{Result, Ok, Err}
 use Rattle.rules.specs.Rules.{LevelsBroken}
 use Rattle.judge.specs.Arrays.{HeldEdges, EdgesShaped}
@@ -44,15 +44,6 @@ more_blank v n e le b = ext_get_or 0 _ _ (more_long v n e le ∙ sym (length-rep
 module _ (kinds owners literals : List ℕ) (s : EdgesShaped kinds owners literals) (old : List ℕ) (e : old ≡ blank 1024) where
   part_long : length (take (length kinds) old) ≡ length kinds
   part_long = length-take-le (length kinds) old (omega (arith, s.atoms, ap length e, length-replicate {A = ℕ} 1024 0))
-
-  pub levels_room : length kinds ≤ length old
-  levels_room = omega (arith, s.atoms, ap length e, length-replicate {A = ℕ} 1024 0)
-
-  pub asked_levels : Asked owners literals (take (length kinds) old)
-  asked_levels = record {
-    graph = rw part_long s.graph;
-    atoms = omega (arith, part_long, s.atoms);
-  }
 
   pub levels_numbered : (v : List ℕ) (r : Result ℕ ℕ) → Numbers owners literals (take (length kinds) old) v r → LevelsOf (HeldEdges kinds owners literals) r (v ++ drop (length kinds) old)
   levels_numbered v r n = record { says = λ G h. rw e (go G h r (n.answers itself G.clauses (rw part_long (held_drawn kinds owners literals G h)))) }

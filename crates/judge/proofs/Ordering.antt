@@ -1,62 +1,21 @@
--- Laws of rules in a row: what answers them.
-use mathlib.Core.Path.{◌≡◌, refl, sym, subst}
+-- Laws of rules 11 and 12: what answers them where there are levels.
+use mathlib.Core.Path.{◌≡◌, refl, subst}
 use mathlib.Core.Logic.{inl, inr}
-use mathlib.Core.List.{List, [], ◌∷◌, ◌++◌}
+use mathlib.Core.List.{List}
 use Prim.Native.Nat.{ℕ}
-use native.Mathlib.Omega.{arith}
-use Rattle.std.specs.Prelude.{Option, None, Some, Result, Ok, Err}
-use Rattle.refusals.specs.declared.Refusal.{Refusal}
-use Rattle.refusals.specs.declared.Refusal.TheVariants.{NoLevels, NoRoleFact}
+use Rattle.std.specs.Prelude.{None, Some, Result, Ok, Err}
+use Rattle.refusals.specs.declared.Refusal.TheVariants.{NoRoleFact}
 use Rattle.gdl.specs.Game.{Game}
 use Rattle.gdl.specs.declared.arrays.AtomArrays.{AtomArrays}
 use Rattle.gdl.specs.declared.arrays.ClauseArrays.{ClauseArrays}
 use Rattle.gdl.specs.Flags.{blank}
-use Rattle.rules.specs.Verdict.{Verdict, unfit, fit}
-use Rattle.rules.specs.Rules.{LevelsBroken, RoleMissing, Ruled}
+use Rattle.rules.specs.Rules.{LevelsBroken, RoleMissing}
 use Rattle.judge.specs.Answers.{Searched}
-use Rattle.judge.specs.Arrays.{HeldClauses, HeldEdges, HeldRoles, HeldUses}
-use Rattle.judge.specs.Judgement.{Rule, RuledIn, head_rules, use_rules, last_rules, verdict_of, Held, Answers, Levelled, LevelsOr11, LevelsOf, Judges, HeldLast}
+use Rattle.judge.specs.Arrays.{HeldEdges, HeldRoles}
+use Rattle.judge.specs.Judgement.{RuledIn, last_rules, Levelled, LevelsOr11, LevelsOf, Judges, HeldLast}
 use Rattle.judge.proofs.Numbering.{levelled_none}
-use Rattle.judge.proofs.Shaping.{held_clauses, held_uses, held_last}
-
-module _ (Held : Game → Type 0) where
-  pub answers_none : Answers Held [] (Ok tt)
-  answers_none = record { ruled = λ G h. refl }
-
-  module _ (x : Rule) (rest : List Rule) where
-    pub answers_here : (p : ℕ) → Searched Held x.Broken (Some p) → Answers Held (x ∷ rest) (Err (x.refusal p))
-    answers_here p s = record { ruled = λ G h. inl (p, s.finds G h, refl) }
-
-    pub answers_past : (r : Result (Unit {0}) Refusal) → Searched Held x.Broken None → Answers Held rest r → Answers Held (x ∷ rest) r
-    answers_past r s a = record { ruled = λ G h. inr (s.finds G h, a.ruled G h) }
-
--- what was found of edges alone is found where both are held
-module _ (a : AtomArrays) (c : ClauseArrays) (owners literals : List ℕ) where
-  pub by_edges : (Broken : Game → ℕ → Type 0) (f : Option ℕ) → Searched (HeldEdges a.kinds.now owners literals) Broken f → Searched (HeldUses a c owners literals) Broken f
-  by_edges Broken f s = record { finds = λ G h. s.finds G h.edges }
-
--- ---- rows joined: a refusal stands whatever follows; where nothing is refused, what follows decides
-
-clash : {P : Type 0} (G : Game) (r : Refusal) → ◌≡◌ {A = Verdict} (unfit r) (fit G) → P
-clash G r e = let z : ◌≡◌ {A = ℕ} 0 1 = cc in absurd (omega arith)
-
-module _ (G : Game) (rest : List Rule) where
-  in_stop : (rules : List Rule) (r : Refusal) → RuledIn rules G (unfit r) → RuledIn (rules ++ rest) G (unfit r)
-  in_stop [] r e = clash G r e
-  in_stop (x ∷ rules) r (inl a) = inl a
-  in_stop (x ∷ rules) r (inr b) = inr (b.0, in_stop rules r b.1)
-
-  in_join : (rules : List Rule) (v : Verdict) → RuledIn rules G (fit G) → RuledIn rest G v → RuledIn (rules ++ rest) G v
-  in_join [] v e l = l
-  in_join (x ∷ rules) v (inl a) l = clash G _ (sym a.2)
-  in_join (x ∷ rules) v (inr b) l = inr (b.0, in_join rules v b.1 l)
-
--- ---- 11 and 12
 
 module _ (a : AtomArrays) (c : ClauseArrays) (owners literals : List ℕ) (seats : ℕ) (v : List ℕ) where
-  pub last_refused : (p : ℕ) → LevelsOf (HeldEdges a.kinds.now owners literals) (Err p) v → Judges (HeldLast a c owners literals seats) (RuledIn last_rules) (Err (NoLevels p)) v
-  last_refused p l = record { ruled = λ G h. inl (p, (l.says G h.edges).0, refl); leaves = λ G h. (l.says G h.edges).1 }
-
   module _ (n : Result ℕ ℕ) (l : LevelsOf (HeldEdges a.kinds.now owners literals) n v) (top : ℕ) (e : n ≡ Ok top) where
     levelled : (G : Game) → HeldEdges a.kinds.now owners literals G → Levelled G v top
     levelled G h = subst (λ m. LevelsOr11 G m v) e (l.says G h)
@@ -69,23 +28,3 @@ module _ (a : AtomArrays) (c : ClauseArrays) (owners literals : List ℕ) (seats
 
     pub last_done : Searched (HeldRoles a c seats) RoleMissing None → Judges (HeldLast a c owners literals seats) (RuledIn last_rules) (Ok top) v
     last_done s = record { ruled = λ G h. inr (no_cycle G h.edges, inr (s.finds G h.roles, refl)); leaves = λ G h. levelled G h.edges }
-
--- ---- all of them
-
-module _ (a : AtomArrays) (c : ClauseArrays) (owners : List ℕ) (seats : ℕ) where
-  pub all_heads : (e : Refusal) → Answers (HeldClauses a c) head_rules (Err e) → (v : List ℕ) → v ≡ blank 1024 → Judges (Held a c owners seats) Ruled (Err e) v
-  all_heads e h v ev = record { ruled = λ G k. in_stop G (use_rules ++ last_rules) head_rules e (h.ruled G (held_clauses k)); leaves = λ G k. ev }
-
-  module _ (h : Answers (HeldClauses a c) head_rules (Ok tt)) where
-    past_heads : (G : Game) → Held a c owners seats G → (v : Verdict) → RuledIn (use_rules ++ last_rules) G v → Ruled G v
-    past_heads G k v l = in_join G (use_rules ++ last_rules) head_rules v (h.ruled G (held_clauses k)) l
-
-    pub all_uses : (e : Refusal) → Answers (HeldUses a c owners c.literals.now) use_rules (Err e) → (v : List ℕ) → v ≡ blank 1024 → Judges (Held a c owners seats) Ruled (Err e) v
-    all_uses e u v ev = record { ruled = λ G k. past_heads G k (unfit e) (in_stop G last_rules use_rules e (u.ruled G (held_uses k))); leaves = λ G k. ev }
-
-    pub all_last : Answers (HeldUses a c owners c.literals.now) use_rules (Ok tt) → (j : Result ℕ Refusal) (v : List ℕ)
-        → Judges (HeldLast a c owners c.literals.now seats) (RuledIn last_rules) j v → Judges (Held a c owners seats) Ruled j v
-    all_last u j v l = record {
-      ruled = λ G k. past_heads G k (verdict_of G j) (in_join G last_rules use_rules (verdict_of G j) (u.ruled G (held_uses k)) (l.ruled G (held_last k)));
-      leaves = λ G k. l.leaves G (held_last k);
-    }

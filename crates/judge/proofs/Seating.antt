@@ -1,11 +1,10 @@
 -- Laws of the search for a seat without a role fact.
 use mathlib.Core.Path.{◌≡◌, refl, ap, subst, ◌∙◌}
 use mathlib.Core.Bool.{Bool, true, false, not, ◌&&◌}
-use mathlib.Core.List.{List}
 use Prim.Native.Nat.{ℕ, ◌<◌}
 use native.Mathlib.Omega.{arith}
 use lib.Dec.{eqb, eqb→eq}
-use lib.ListN.{length, get_or}
+use lib.ListN.{length}
 use Rattle.gdl.specs.Game.{Atom, Game, role_kind, is_atom, atom_at, kind_of}
 use Rattle.gdl.specs.declared.arrays.AtomArrays.{AtomArrays}
 use Rattle.gdl.specs.declared.arrays.ClauseArrays.{ClauseArrays}
@@ -13,7 +12,7 @@ use Rattle.gdl.proofs.Tests.{and_agree}
 use Rattle.rules.specs.Rules.{some, RoleMissing}
 use Rattle.rules.specs.Judged.{role_given}
 use Rattle.rules.specs.Limits.{second_end, Limits}
-use Rattle.judge.specs.Arrays.{HeldRoles, RolesShaped, RoleAsked, role_of}
+use Rattle.judge.specs.Arrays.{HeldRoles, role_of}
 use Rattle.rules.proofs.Finding.{some_agree}
 use Rattle.rules.proofs.Judging.{Exact, seat_exact}
 use Rattle.judge.proofs.Holding.{kind_held, first_held}

@@ -5,11 +5,10 @@ ghost use Rattle.rules.specs.Rules.{some, one_of, RoleBroken, HeadBroken, BodyBr
 ghost use Rattle.judge.specs.Answers.{Searched};
 ghost use Rattle.judge.specs.Arrays.{numbers, head_kind, role_with_body, never_head, never_in_body, HeldClauses, HeldUses, ClausesShaped, ClauseAsked, LiteralsOver, UsesAsked, AnyMisused};
 
+use super::kinds::one_of;
 use edges::Edges;
 use gdl::arrays::{AtomArrays, ClauseArrays};
 use gdl::kinds::Kind;
-
-use super::kinds::one_of;
 
 // The kind of a clause's head.
 fn head_kind(atoms: &AtomArrays, clauses: &ClauseArrays, i: usize) -> u16

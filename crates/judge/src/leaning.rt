@@ -6,11 +6,10 @@ ghost use Rattle.edges.specs.Queue.{no_marks};
 ghost use Rattle.judge.specs.Answers.{Searched};
 ghost use Rattle.judge.specs.Arrays.{numbers, HeldEdges, EdgesShaped, MarksOf};
 
+use super::kinds::one_of;
 use edges::Edges;
 use edges::marks::close_back;
 use gdl::kinds::Kind;
-
-use super::kinds::one_of;
 
 // Marks each atom that is of one of those kinds or depends on one.
 fn mark_resting(those: &[Kind], kinds: &[u16], edges: &Edges, marks: &mut [u8; 1024])

@@ -41,7 +41,13 @@ fn judge_uses(atoms: &AtomArrays, clauses: &ClauseArrays, edges: &Edges) -> Resu
     if let Some(i) = clauses::lowest_misusing(atoms, clauses, edges) {
         return Err(Refusal::NeverInBody(i));
     }
-    let given = [Kind::True, Kind::Does, Kind::Legal, Kind::Terminal, Kind::Goal];
+    let given = [
+        Kind::True,
+        Kind::Does,
+        Kind::Legal,
+        Kind::Terminal,
+        Kind::Goal,
+    ];
     if let Some(p) = lowest_leaning(&[Kind::Init], &given, atoms.kinds, edges) {
         return Err(Refusal::InitRule(p));
     }
