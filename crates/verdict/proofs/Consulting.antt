@@ -24,7 +24,7 @@ use Rattle.gdl.specs.declared.arrays.ClauseArrays.{ClauseArrays}
 use Rattle.gdl.specs.Layout as T
 use Rattle.std.specs.Prelude.{Result, Ok, Err}
 use Rattle.rules.specs.Rules.{Ruled}
-use Rattle.rules.specs.Verdict.{Verdict, unfit, fit}
+use Rattle.rules.specs.Verdict.{unfit, fit}
 use Rattle.rules.specs.Judged.{judge}
 use Rattle.rules.proofs.Reading.{read_limits}
 use Rattle.rules.proofs.Judging.{fault_judge, read_judge}

@@ -11,7 +11,6 @@ use Rattle.gdl.specs.Computed.{any_of}
 use Rattle.gdl.specs.declared.arrays.AtomArrays.{AtomArrays}
 use Rattle.gdl.proofs.Reading.{any_agree}
 use Rattle.gdl.proofs.Walks.{flags_same}
-use Rattle.table.specs.declared.tables.AtomRoom.{AtomRoom}
 use Rattle.truth.specs.Reading.{atoms_of}
 use Rattle.truth.specs.Marks.{is_at, marks_of, Marking}
 use Rattle.truth.proofs.Held.{atoms_back}

@@ -1,5 +1,5 @@
 -- The arrays of a decoded table, and the parts of them that are in use.
-use Rattle.std.specs.Prelude.{◌≡◌, List, ℕ, ◌+◌, ◌≤◌, length, get_or, take}
+use Rattle.std.specs.Prelude.{◌≡◌, ℕ, ◌+◌, ◌≤◌, length, get_or, take}
 use Rattle.std.proofs.lemmas.List.Edits.{sets}
 use Rattle.gdl.specs.Game.{Game}
 use Rattle.gdl.specs.declared.arrays.AtomArrays.{AtomArrays}

@@ -1,5 +1,5 @@
 -- An accepted table's arrays hold its game, so they can be asked for the model.
-use Rattle.verdict.proofs.Laying.{Ends, ends, model_ready}
+use Rattle.verdict.proofs.Laying.{ends, model_ready}
 use Rattle.verdict.proofs.Consulting.{fit_consulted}
 use Rattle.verdict.proofs.consult.Goals as goal
 

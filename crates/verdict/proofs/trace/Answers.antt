@@ -1,5 +1,5 @@
 -- An accepted table's arrays hold its game, so they can be asked for the reach.
-use Rattle.verdict.proofs.Laying.{Ends, ends, trace_ready}
+use Rattle.verdict.proofs.Laying.{ends, trace_ready}
 use Rattle.verdict.proofs.Consulting.{fit_traced}
 use Rattle.verdict.proofs.trace.Goals as goal
 

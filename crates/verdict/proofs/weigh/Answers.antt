@@ -1,8 +1,8 @@
 -- A fault of reading is the verdict, and so is a broken rule; else the arrays hold the accepted game with its levels.
-use mathlib.Core.Path.{refl, ◌∙◌}
+use mathlib.Core.Path.{refl}
 use Rattle.std.proofs.lemmas.Result.{err_from_is_err_and}
-use Rattle.verdict.proofs.Laying.{Ends, ends}
-use Rattle.verdict.proofs.Consulting.{Got, unread, was_read, judgeable, broken, kept}
+use Rattle.verdict.proofs.Laying.{ends}
+use Rattle.verdict.proofs.Consulting.{unread, was_read, judgeable, broken, kept}
 use Rattle.verdict.proofs.weigh.Goals as goal
 
 pub returns-in_err-read : goal.returns-in_err-read
