@@ -4,7 +4,7 @@ use native.Mathlib.Omega.{arith}
 use native.Mathlib.Decide.{dec_lt}
 use Rattle.std.specs.Prelude.{Bool, true, false, not, ltb, Option, Some, None, Ok, Err}
 use native.Mathlib.Nat.{sub-zero}
-use mathlib.Core.Path.{◌≡◌, refl}
+use mathlib.Core.Path.{◌≡◌, refl, ◌∙◌}
 use mathlib.Core.List.{List, [], ◌∷◌, ◌++◌, append-nil}
 use lib.ListN.{length, set, length-append}
 use borrow.Author.Tests.{lt-ltb, le-ltb}
@@ -16,6 +16,7 @@ use Rattle.table.specs.Table.{atom, atoms_from}
 use Rattle.table.specs.Says.{atom_of, key_of, WroteAtoms, AtomsLaid}
 use Rattle.table.specs.declared.header.Header.{Header}
 use Rattle.table.specs.declared.atoms.AtomRecord.{AtomRecord}
+use Rattle.table.specs.declared.cursor.Cursor.{Cursor}
 use Rattle.table.specs.declared.tables.AtomRoom.{AtomRoom}
 use Rattle.table.proofs.Runs.{onto, onto_none, onto_cons, stored_next}
 
@@ -30,12 +31,13 @@ too_low a None = false
 too_low a (Some b) = not (ltb (key_of b) (key_of a))
 
 -- what holds while atoms are read: those that are done stand in the arrays, and the reading goes on from them
-pub record Reading (h : Header) (s : List ℕ) (at n : ℕ) (old room : AtomRoom) (k : ℕ) (last : Option AtomRecord) (next : ℕ) : Type 0 where
+pub record Reading (h : Header) (n : ℕ) (start : Cursor) (old room : AtomRoom) (k : ℕ) (last : Option AtomRecord) (cursor : Cursor) : Type 0 where
+  pub same : cursor.bytes ≡ start.bytes
   pub within : k ≤ n
   pub done : List Atom
   pub many : length done ≡ k
   pub laid : AtomsLaid done old room
-  pub whole : atoms_from h n 0 s at ≡ onto done (atoms_from h (n - k) (least_after last) s next)
+  pub whole : atoms_from h n 0 start.bytes.now start.at ≡ onto done (atoms_from h (n - k) (least_after last) cursor.bytes.now cursor.at)
 
 flip : (x y : ℕ) → ltb x (y + 1) ≡ not (ltb y x)
 flip x y = elim (dec_lt y x) [
@@ -47,9 +49,10 @@ low_test : (a : AtomRecord) (last : Option AtomRecord) (t : Bool) → too_low a 
 low_test a None t e = rw (le-ltb (key_of a) 0 (omega arith)) e
 low_test a (Some b) t e = rw (flip (key_of a) (key_of b)) e
 
-module _ {h : Header} {s : List ℕ} {at n : ℕ} {old : AtomRoom} where
-  pub reading_starts : Reading h s at n old old 0 None at
+module _ {h : Header} {n : ℕ} {start : Cursor} {old : AtomRoom} where
+  pub reading_starts : Reading h n start old old 0 None start
   reading_starts = record {
+    same = refl;
     within = omega arith;
     done = [];
     many = refl;
@@ -57,26 +60,27 @@ module _ {h : Header} {s : List ℕ} {at n : ℕ} {old : AtomRoom} where
     whole = rw sub-zero (onto_none _);
   }
 
-  module _ {room : AtomRoom} {k next : ℕ} {last : Option AtomRecord} (i : Reading h s at n old room k last next) where
+  module _ {room : AtomRoom} {k : ℕ} {last : Option AtomRecord} {cursor : Cursor} (i : Reading h n start old room k last cursor) where
     module _ (l : k < n) where
       left : n - k ≡ suc (n - (k + 1))
       left = omega arith
 
-      pub reading_fault : {f : Refusal} → fault f ≡ atom h s next → WroteAtoms (atoms_from h n 0 s at) old (Err f) room
+      pub reading_fault : {f : Refusal} (at : ℕ) → fault f ≡ atom h cursor.bytes.now cursor.at → WroteAtoms (atoms_from h n 0 start.bytes.now start.at) old (Err f) at room
       unfolding atoms_from onto
-      reading_fault {f} e = rw (i.whole, left, ← e) refl
+      reading_fault {f} at e = rw (i.whole, left, ← e) refl
 
-      module _ {a : AtomRecord} {end : ℕ} (e : ok (atom_of a) end ≡ atom h s next) where
-        pub reading_low : too_low a last ≡ true → WroteAtoms (atoms_from h n 0 s at) old (Err (NotAbove next)) room
+      module _ {a : AtomRecord} (next : Cursor) (e : ok (atom_of a) next.at ≡ atom h cursor.bytes.now cursor.at) where
+        pub reading_low : too_low a last ≡ true → WroteAtoms (atoms_from h n 0 start.bytes.now start.at) old (Err (NotAbove cursor.at)) next.at room
         unfolding atoms_from onto
         reading_low m = rw (i.whole, left, ← e, low_test a last true m) refl
 
-        pub reading_more : too_low a last ≡ false
-            → Reading h s at n old (record { kinds = set room.kinds k a.kind; firsts = set room.firsts k a.first; seconds = set room.seconds k a.second }) (k + 1) (Some a) end
+        pub reading_more : next.bytes ≡ cursor.bytes → too_low a last ≡ false
+            → Reading h n start old (record { kinds = set room.kinds k a.kind; firsts = set room.firsts k a.first; seconds = set room.seconds k a.second }) (k + 1) (Some a) next
         unfolding atoms_from
-        reading_more m =
+        reading_more t m =
             let j : k ≡ 0 + length i.done = omega (arith, i.many) in
             record {
+              same = t ∙ i.same;
               within = omega arith;
               done = i.done ++ atom_of a ∷ [];
               many = rw (length-append, i.many) refl;
@@ -85,13 +89,13 @@ module _ {h : Header} {s : List ℕ} {at n : ℕ} {old : AtomRoom} where
                 firsts_are = stored_next (λ b. b.first) old.firsts room.firsts 0 k i.done (atom_of a) i.laid.firsts_are j;
                 seconds_are = stored_next (λ b. b.second) old.seconds room.seconds 0 k i.done (atom_of a) i.laid.seconds_are j;
               };
-              whole = rw (i.whole, left, ← e, low_test a last false m) (onto_cons _ _ _);
+              whole = rw (i.whole, left, ← e, low_test a last false m, t) (onto_cons _ _ _);
             }
 
-    pub reading_done : n ≤ k → WroteAtoms (atoms_from h n 0 s at) old (Ok next) room
+    pub reading_done : n ≤ k → WroteAtoms (atoms_from h n 0 start.bytes.now start.at) old (Ok tt) cursor.at room
     unfolding atoms_from onto
     reading_done m =
         let z : n - k ≡ 0 = omega (arith, i.within) in
-        rw (i.whole, z, append-nil) (refl, i.laid)
+        rw (i.whole, z, append-nil) (refl, refl, i.laid)
 
 pub ruleset readings = (reading_starts, reading_fault, reading_low, reading_more, reading_done)

@@ -1,39 +1,13 @@
 -- Laws of the readers, in the form in which the code's tests and answers meet them.
-use Prim.Native.Nat.{ℕ, ◌≤◌, ◌<◌}
+use Prim.Native.Nat.{ℕ}
 use mathlib.Core.Path.{◌≡◌, refl, sym, ap, ◌∙◌}
 use mathlib.Core.List.{List}
 use lib.ListN.{get_or, get_or-map}
-use borrow.Author.Tests.{le-leb, lt-leb, le-ltb, lt-ltb}
-use Rattle.numbers.specs.Number.{number_at}
-use Rattle.numbers.specs.declared.Item.{Item}
-use Rattle.numbers.specs.declared.Fault.{Fault}
-use Rattle.std.specs.Prelude.{Option, None, Result, Ok, Err}
-use Rattle.refusals.specs.declared.Refusal.{Refusal}
-use Rattle.refusals.specs.declared.Refusal.TheVariants.{OutOfRange}
-use Rattle.table.specs.Parse.{Parse, ok, fault, refusal_of, bounded}
+use Rattle.std.specs.Prelude.{Option, None}
+use Rattle.table.specs.Parse.{Parse}
 use Rattle.table.specs.Table.{Bound, Absent, field, first_bounds, second_bounds, first_bound, second_bound}
 use Rattle.table.specs.Says.{end_of, ends, EndsOf}
 use Rattle.table.specs.declared.header.Header.{Header}
-
-module _ (s : List ℕ) (at lo end : ℕ) (r : Result Item Fault) (e : r ≡ number_at s at) where
-  pub number_missing : (f : Fault) (q : Refusal) → r ≡ Err f → q ≡ refusal_of f at → fault q ≡ bounded lo end s at
-  unfolding bounded
-  number_missing f q h g = rw (← e, h, g)
-
-  module _ (i : Item) (h : r ≡ Ok i) where
-    pub number_low : i.value < lo → fault (OutOfRange at) ≡ bounded lo end s at
-    unfolding bounded
-    number_low l = rw (← e, h, lt-ltb i.value lo)
-
-    pub number_high : lo ≤ i.value → end ≤ i.value → fault (OutOfRange at) ≡ bounded lo end s at
-    unfolding bounded
-    number_high l g = rw (← e, h, le-ltb i.value lo, le-leb end i.value)
-
-    pub number_in : lo ≤ i.value → i.value < end → ok i.value i.next ≡ bounded lo end s at
-    unfolding bounded
-    number_in l g = rw (← e, h, le-ltb i.value lo, lt-leb end i.value)
-
-pub ruleset numbers = (number_missing, number_low, number_high, number_in)
 
 pub both_ends : (h : Header) (firsts seconds : List (Option ℕ)) → firsts ≡ ends (first_bounds h) → seconds ≡ ends (second_bounds h) → EndsOf h firsts seconds
 both_ends h firsts seconds e f = record { firsts_are = e; seconds_are = f }

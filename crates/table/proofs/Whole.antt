@@ -14,6 +14,7 @@ use Rattle.table.specs.Parse.{Parse, ok, fault, after, bounded, refuse◌if◌}
 use Rattle.table.specs.Table.{header, atom, key, atoms_from, clause, clauses_from, clauses, game, table}
 use Rattle.table.specs.Says.{WroteAtoms, AtomsLaid, ClausesLaid, WroteClauses, WroteRest, WroteGame, WroteTable}
 use Rattle.table.specs.declared.header.Header.{Header}
+use Rattle.table.specs.declared.cursor.Cursor.{Cursor}
 use Rattle.table.specs.declared.tables.ClauseRoom.{ClauseRoom}
 use Rattle.table.specs.declared.tables.Arrays.{Arrays}
 use Rattle.table.proofs.Values.{All, all_after, any}
@@ -34,34 +35,35 @@ module _ (old new : ClauseRoom) where
     read : p ≡ ok found n
     laid : ClausesLaid found old new
 
-  got : (p : Parse (List Clause)) (n : ℕ) → WroteClauses p old (Ok n) new → Got p n
-  got (ok cs m) n w = record { found = cs; read = cc w.0; laid = w.1 }
+  got : (p : Parse (List Clause)) (n : ℕ) → WroteClauses p old (Ok tt) n new → Got p n
+  got (ok cs m) n w = let e : n ≡ m = w.1 in record { found = cs; read = rw e refl; laid = w.2 }
   got (fault f) n w = let z : ◌≡◌ {A = ℕ} 0 1 = cc w in absurd (omega arith)
 
-  missed : (p : Parse (List Clause)) (f : Refusal) → WroteClauses p old (Err f) new → p ≡ fault f
-  missed (ok cs m) f w = cc w.0
-  missed (fault h) f w = cc w
+  missed : (p : Parse (List Clause)) (at : ℕ) (f : Refusal) → WroteClauses p old (Err f) at new → p ≡ fault f
+  missed (ok cs m) at f w = cc w.0
+  missed (fault h) at f w = cc w
 
-  module _ (s : List ℕ) (at a many next : ℕ) (e : ok many next ≡ bounded 0 2049 s at) where
-    pub empty_clauses : (f : Refusal) → WroteClauses (clauses_from many a 8192 s next) old (Err f) new → WroteRest (clauses a s at) old (Err f) new
+  -- from a place to the place after the count, and from there to the place after the clauses
+  module _ (a many : ℕ) (start next end : Cursor) (t : next.bytes ≡ start.bytes) (e : ok many next.at ≡ bounded 0 2049 start.bytes.now start.at) where
+    pub empty_clauses : (f : Refusal) → WroteClauses (clauses_from many a 8192 next.bytes.now next.at) old (Err f) end.at new
+        → WroteRest (clauses a start.bytes.now start.at) old (Err f) new
     unfolding clauses
-    empty_clauses f w = rw (← e, missed (clauses_from many a 8192 s next) f w) refl
+    empty_clauses f w = rw (← e, ← t, missed (clauses_from many a 8192 next.bytes.now next.at) end.at f w) refl
 
-    module _ (end : ℕ) (w : WroteClauses (clauses_from many a 8192 s next) old (Ok end) new) where
-      cg : Got (clauses_from many a 8192 s next) end
-      cg = got (clauses_from many a 8192 s next) end w
+    module _ (u : end.bytes ≡ next.bytes) (w : WroteClauses (clauses_from many a 8192 next.bytes.now next.at) old (Ok tt) end.at new) where
+      cg : Got (clauses_from many a 8192 next.bytes.now next.at) end.at
+      cg = got (clauses_from many a 8192 next.bytes.now next.at) end.at w
 
-      pub longer : end < length s → WroteRest (clauses a s at) old (Err (BytesAfter end)) new
+      pub longer : end.at < length end.bytes.now → WroteRest (clauses a start.bytes.now start.at) old (Err (BytesAfter end.at)) new
       unfolding clauses
-      longer d = rw (← e, cg.read, lt-ltb end (length s)) refl
+      longer d = let f : end.at < length next.bytes.now = rw u at d in rw (← e, ← t, cg.read, lt-ltb end.at (length next.bytes.now)) refl
 
-      pub all_clauses : length s ≤ end → WroteRest (clauses a s at) old (Ok many) new
+      pub all_clauses : length end.bytes.now ≤ end.at → WroteRest (clauses a start.bytes.now start.at) old (Ok many) new
       unfolding clauses
       all_clauses d =
-          let m : length cg.found ≡ many = rw cg.read at (clauses_many many a 8192 s next) in
-          rw (← e, cg.read, le-ltb end (length s)) (rw m refl, cg.laid)
-
-pub ruleset rest_laws = (empty_clauses, longer, all_clauses)
+          let m : length cg.found ≡ many = rw cg.read at (clauses_many many a 8192 next.bytes.now next.at) in
+          let f : length next.bytes.now ≤ end.at = rw u at d in
+          rw (← e, ← t, cg.read, le-ltb end.at (length next.bytes.now)) (rw m refl, cg.laid)
 
 -- ---- the table
 
@@ -84,9 +86,9 @@ module _ (h : Header) (old new : Arrays) where
   Wrote p q = WroteGame p h q old new
 
   -- by what the reading of the atoms gave
-  atoms_missed : (p : Parse (List Atom)) (k : List Atom → ℕ → Parse Game) (f : Refusal) → WroteAtoms p old.atoms (Err f) new.atoms → Wrote (after p k) (Err f)
-  atoms_missed (ok xs m) k f w = let z : ◌≡◌ {A = ℕ} 0 1 = cc w.0 in absurd (omega arith)
-  atoms_missed (fault g) k f w = cc w
+  atoms_missed : (p : Parse (List Atom)) (k : List Atom → ℕ → Parse Game) (at : ℕ) (f : Refusal) → WroteAtoms p old.atoms (Err f) at new.atoms → Wrote (after p k) (Err f)
+  atoms_missed (ok xs m) k at f w = let z : ◌≡◌ {A = ℕ} 0 1 = cc w.0 in absurd (omega arith)
+  atoms_missed (fault g) k at f w = cc w
 
   -- the game of these atoms and clauses, under the header
   abbrev game_of : List Atom → List Clause → Game
@@ -107,22 +109,23 @@ module _ (h : Header) (old new : Arrays) where
     with_clauses xs n a (ok cs m) v = (length cs, v.0, record { header_is = same_header h (length xs) n; count_is = refl; atoms = a; clauses = v.1 })
     with_clauses xs n a (fault f) v = v
 
-    with_atoms : (p : Parse (List Atom)) → All (λ xs m. length xs ≡ h.sizes.atoms) p → (next : ℕ) → WroteAtoms p old.atoms (Ok next) new.atoms
+    with_atoms : (p : Parse (List Atom)) → All (λ xs m. length xs ≡ h.sizes.atoms) p → (next : ℕ) → WroteAtoms p old.atoms (Ok tt) next new.atoms
         → (r : ℕ → Parse (List Clause)) → WroteRest (r next) old.clauses q new.clauses → Wrote (after p (λ xs m. after (r m) (λ cs k. ok (game_of xs cs) k))) q
-    with_atoms (ok xs m) n next w r v = let e : m ≡ next = cc w.0 in rw e (with_clauses xs n w.1 (r next) v)
+    with_atoms (ok xs m) n next w r v = let e : next ≡ m = w.1 in rw (← e) (with_clauses xs n w.2 (r next) v)
     with_atoms (fault f) n next w r v = let z : ◌≡◌ {A = ℕ} 0 1 = cc w in absurd (omega arith)
 
-  module _ (s : List ℕ) (at : ℕ) where
-    pub empty_atoms : (f : Refusal) → WroteAtoms (atoms_from h h.sizes.atoms 0 s at) old.atoms (Err f) new.atoms → Wrote (game h s at) (Err f)
+  -- from a place to the place after the atoms
+  module _ (start next : Cursor) where
+    pub empty_atoms : (f : Refusal) → WroteAtoms (atoms_from h h.sizes.atoms 0 start.bytes.now start.at) old.atoms (Err f) next.at new.atoms
+        → Wrote (game h start.bytes.now start.at) (Err f)
     unfolding game
-    empty_atoms f w = atoms_missed (atoms_from h h.sizes.atoms 0 s at) _ f w
+    empty_atoms f w = atoms_missed (atoms_from h h.sizes.atoms 0 start.bytes.now start.at) _ next.at f w
 
-    pub all_game : (next : ℕ) (q : Result ℕ Refusal) → WroteAtoms (atoms_from h h.sizes.atoms 0 s at) old.atoms (Ok next) new.atoms
-        → WroteRest (clauses h.sizes.atoms s next) old.clauses q new.clauses → Wrote (game h s at) q
+    pub all_game : (q : Result ℕ Refusal) → next.bytes ≡ start.bytes → WroteAtoms (atoms_from h h.sizes.atoms 0 start.bytes.now start.at) old.atoms (Ok tt) next.at new.atoms
+        → WroteRest (clauses h.sizes.atoms next.bytes.now next.at) old.clauses q new.clauses → Wrote (game h start.bytes.now start.at) q
     unfolding game
-    all_game next q w v = with_atoms q (atoms_from h h.sizes.atoms 0 s at) (atoms_many h h.sizes.atoms 0 s at) next w (clauses h.sizes.atoms s) v
-
-pub ruleset game_laws = (empty_atoms, all_game)
+    all_game q t w v = with_atoms q (atoms_from h h.sizes.atoms 0 start.bytes.now start.at) (atoms_many h h.sizes.atoms 0 start.bytes.now start.at) next.at w
+        (clauses h.sizes.atoms start.bytes.now) (rw t at v)
 
 -- ---- the whole table
 

@@ -2,7 +2,6 @@
 use Rattle.std.specs.Prelude.{ℕ, ◌≡◌, List, map, length, Option, Some, None, Result, Ok, Err}
 use Rattle.std.proofs.lemmas.List.Edits.{sets}
 use Rattle.refusals.specs.declared.Refusal.{Refusal}
-use Rattle.numbers.specs.declared.Item.{Item}
 use Rattle.gdl.specs.Flags.{blank}
 use Rattle.gdl.specs.Game.{Atom, Literal, Clause, Game}
 use Rattle.gdl.specs.Layout.{code_of, kinds_of, firsts_of, seconds_of, heads_of, starts_from, literals_of, owners_of}
@@ -16,14 +15,10 @@ use Rattle.table.specs.declared.tables.ClauseRoom.{ClauseRoom}
 use Rattle.table.specs.declared.tables.Arrays.{Arrays}
 use Rattle.table.specs.declared.tables.Read.{Read}
 
-abbrev pub field_says : Result Item Refusal → Parse ℕ
-field_says (Ok i) = ok i.value i.next
-field_says (Err f) = fault f
-
 -- a value and the place after it
-abbrev pub says : {A : Type 0} → Result (A × ℕ) Refusal → Parse A
-says (Ok x) = ok x.0 x.1
-says (Err f) = fault f
+abbrev pub says : {A : Type 0} → Result A Refusal → ℕ → Parse A
+says (Ok x) n = ok x n
+says (Err f) n = fault f
 
 -- a bound as the code has it: the end that a field's numbers are below, or none
 abbrev pub end_of : Bound → Option ℕ
@@ -40,35 +35,35 @@ pub record EndsOf (h : Header) (firsts seconds : List (Option ℕ)) : Type 0 whe
 abbrev pub atom_of : AtomRecord → Atom
 atom_of a = record { kind = a.kind; first = a.first; second = a.second }
 
-abbrev pub atom_says : Result (AtomRecord × ℕ) Refusal → Parse Atom
-atom_says (Ok x) = ok (atom_of x.0) x.1
-atom_says (Err f) = fault f
+abbrev pub atom_says : Result AtomRecord Refusal → ℕ → Parse Atom
+atom_says (Ok a) n = ok (atom_of a) n
+atom_says (Err f) n = fault f
 
 abbrev pub key_of : AtomRecord → ℕ
 key_of a = key (atom_of a)
 
--- ---- arrays: of what was read well every place is said, of a fault only the answer
+-- ---- arrays: of what was read well every place is said, and the place after it, of a fault only the answer
 
 pub record AtomsLaid (xs : List Atom) (old new : AtomRoom) : Type 0 where
   pub kinds_are : new.kinds ≡ sets old.kinds 0 (kinds_of xs)
   pub firsts_are : new.firsts ≡ sets old.firsts 0 (firsts_of xs)
   pub seconds_are : new.seconds ≡ sets old.seconds 0 (seconds_of xs)
 
-abbrev pub WroteAtoms : Parse (List Atom) → AtomRoom → Result ℕ Refusal → AtomRoom → Type 0
-WroteAtoms (ok xs n) old r new = (r ≡ Ok n) × AtomsLaid xs old new
-WroteAtoms (fault f) old r new = r ≡ Err f
+abbrev pub WroteAtoms : Parse (List Atom) → AtomRoom → Result (Unit {0}) Refusal → ℕ → AtomRoom → Type 0
+WroteAtoms (ok xs n) old r at new = (r ≡ Ok tt) × (at ≡ n) × AtomsLaid xs old new
+WroteAtoms (fault f) old r at new = r ≡ Err f
 
-abbrev pub WroteLiterals : Parse (List Literal) → List ℕ → ℕ → Result ℕ Refusal → List ℕ → Type 0
-WroteLiterals (ok xs n) old used r new = (r ≡ Ok n) × (new ≡ sets old used (map code_of xs))
-WroteLiterals (fault f) old used r new = r ≡ Err f
+abbrev pub WroteLiterals : Parse (List Literal) → List ℕ → ℕ → Result (Unit {0}) Refusal → ℕ → List ℕ → Type 0
+WroteLiterals (ok xs n) old used r at new = (r ≡ Ok tt) × (at ≡ n) × (new ≡ sets old used (map code_of xs))
+WroteLiterals (fault f) old used r at new = r ≡ Err f
 
 -- a clause, less its literals
 abbrev pub outline_of : Clause → Outline
 outline_of c = record { head = record { 0 = c.head }; count = length c.body }
 
-abbrev pub WroteClause : Parse Clause → List ℕ → ℕ → Result (Outline × ℕ) Refusal → List ℕ → Type 0
-WroteClause (ok c n) old used r new = (r ≡ Ok (outline_of c, n)) × (new ≡ sets old used (map code_of c.body))
-WroteClause (fault f) old used r new = r ≡ Err f
+abbrev pub WroteClause : Parse Clause → List ℕ → ℕ → Result Outline Refusal → ℕ → List ℕ → Type 0
+WroteClause (ok c n) old used r at new = (r ≡ Ok (outline_of c)) × (at ≡ n) × (new ≡ sets old used (map code_of c.body))
+WroteClause (fault f) old used r at new = r ≡ Err f
 
 -- the arrays that hold clauses, written over others
 pub record ClausesLaid (cs : List Clause) (old new : ClauseRoom) : Type 0 where
@@ -77,9 +72,9 @@ pub record ClausesLaid (cs : List Clause) (old new : ClauseRoom) : Type 0 where
   pub literals_are : new.literals ≡ sets old.literals 0 (literals_of cs)
   pub owners_are : new.owners ≡ sets old.owners 0 (owners_of cs)
 
-abbrev pub WroteClauses : Parse (List Clause) → ClauseRoom → Result ℕ Refusal → ClauseRoom → Type 0
-WroteClauses (ok cs n) old r new = (r ≡ Ok n) × ClausesLaid cs old new
-WroteClauses (fault f) old r new = r ≡ Err f
+abbrev pub WroteClauses : Parse (List Clause) → ClauseRoom → Result (Unit {0}) Refusal → ℕ → ClauseRoom → Type 0
+WroteClauses (ok cs n) old r at new = (r ≡ Ok tt) × (at ≡ n) × ClausesLaid cs old new
+WroteClauses (fault f) old r at new = r ≡ Err f
 
 abbrev pub WroteRest : Parse (List Clause) → ClauseRoom → Result ℕ Refusal → ClauseRoom → Type 0
 WroteRest (ok cs n) old r new = (r ≡ Ok (length cs)) × ClausesLaid cs old new

@@ -2,12 +2,11 @@
 ghost use Rattle.std.specs.Prelude.{◌≡◌, ◌≤◌, ◌<◌, ltb};
 ghost use Rattle.table.specs.declared.header.Header.{Header};
 ghost use Rattle.table.specs.Table.{Bound, first_bounds, second_bounds, field, atom, atoms_from};
-ghost use Rattle.table.specs.Says.{field_says, end_of, ends, EndsOf, atom_says, key_of, WroteAtoms};
+ghost use Rattle.table.specs.Says.{says, end_of, ends, EndsOf, atom_says, key_of, WroteAtoms};
 
-use crate::fields::read_field;
+use crate::cursor::Cursor;
 use crate::header::Header;
 use crate::tables::AtomRoom;
-use numbers::Item;
 use refusals::Refusal;
 
 // What each kind allows in its first field: nothing, or numbers below an end. Made once for a table.
@@ -52,12 +51,13 @@ fn second_ends(h: Header) -> [Option<u32>; 10]
 
 // A field that a kind may lack: then it counts as 0 and takes no byte.
 #[tactic(auto, unfolding(crate::specs::Table::field))]
-fn read_optional(s: &[u8], at: usize, end: Option<u32>) -> Result<Item, Refusal>
-    ensures { (b : Bound) → end_of b ≡ end → field_says result ≡ field b s.now at }
+fn read_optional(cursor: &mut Cursor, end: Option<u32>) -> Result<u16, Refusal>
+    ensures same { cursor.new.bytes ≡ cursor.old.bytes }
+    ensures says { (b : Bound) → end_of b ≡ end → says result cursor.new.at ≡ field b cursor.old.bytes.now cursor.old.at }
 {
     match end {
-        Some(end) => read_field(s, at, 0, end),
-        None => Ok(Item { value: 0, next: at }),
+        Some(end) => cursor.number(0..end),
+        None => Ok(0),
     }
 }
 
@@ -69,26 +69,23 @@ pub struct AtomRecord {
     pub second: u16,
 }
 
-// Reads an atom record; with it goes the place after it.
 #[tactic(auto, using(crate::proofs::Values::belows), unfolding(crate::specs::Table::atom))]
 fn read_atom(
-    s: &[u8],
-    at: usize,
+    cursor: &mut Cursor,
     firsts: &[Option<u32>; 10],
     seconds: &[Option<u32>; 10],
-) -> Result<(AtomRecord, usize), Refusal>
-    ensures { (h : Header) → EndsOf h firsts.now seconds.now → atom_says result ≡ atom h s.now at }
+) -> Result<AtomRecord, Refusal>
+    ensures same { cursor.new.bytes ≡ cursor.old.bytes }
+    ensures says { (h : Header) → EndsOf h firsts.now seconds.now → atom_says result cursor.new.at ≡ atom h cursor.old.bytes.now cursor.old.at }
 {
-    let kind = read_field(s, at, 0, 10)?;
-    let k = usize::from(kind.value);
-    let first = read_optional(s, kind.next, firsts[k])?;
-    let second = read_optional(s, first.next, seconds[k])?;
-    let record = AtomRecord {
-        kind: kind.value,
-        first: first.value,
-        second: second.value,
-    };
-    Ok((record, second.next))
+    let kind = cursor.number(0..10)?;
+    let first = read_optional(cursor, firsts[usize::from(kind)])?;
+    let second = read_optional(cursor, seconds[usize::from(kind)])?;
+    Ok(AtomRecord {
+        kind,
+        first,
+        second,
+    })
 }
 
 // Is an atom further on in the order than one before? The page's `key` is that order as one number.
@@ -99,26 +96,26 @@ fn is_above(a: AtomRecord, b: AtomRecord) -> bool
     a > b
 }
 
-// Reads the atom records into lent room, and answers the place after them.
+// Reads the atom records into lent room.
 #[tactic(auto, using(crate::proofs::AtomRecords::readings))]
-pub fn read_atoms(s: &[u8], at: usize, h: Header, room: &mut AtomRoom) -> Result<usize, Refusal>
+pub fn read_atoms(cursor: &mut Cursor, h: Header, room: &mut AtomRoom) -> Result<(), Refusal>
     requires { h.sizes.atoms ≤ 1024 }
-    ensures { WroteAtoms (atoms_from h h.sizes.atoms 0 s.now at) room.old result room.new }
+    ensures same { cursor.new.bytes ≡ cursor.old.bytes }
+    ensures says { WroteAtoms (atoms_from h h.sizes.atoms 0 cursor.old.bytes.now cursor.old.at) room.old result cursor.new.at room.new }
 {
     let first_ends = first_ends(h);
     let second_ends = second_ends(h);
     let mut last: Option<AtomRecord> = None;
-    let mut next = at;
     for k in 0..usize::from(h.sizes.atoms) {
-        let (a, end) = read_atom(s, next, &first_ends, &second_ends)?;
+        let start = cursor.at;
+        let a = read_atom(cursor, &first_ends, &second_ends)?;
         if last.is_some_and(|b| !is_above(a, b)) {
-            return Err(Refusal::NotAbove(next));
+            return Err(Refusal::NotAbove(start));
         }
         room.kinds[k] = a.kind;
         room.firsts[k] = a.first;
         room.seconds[k] = a.second;
         last = Some(a);
-        next = end;
     }
-    Ok(next)
+    Ok(())
 }

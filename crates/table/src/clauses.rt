@@ -4,31 +4,28 @@ ghost use Rattle.std.proofs.lemmas.List.Edits.{sets};
 ghost use Rattle.table.specs.Table.{literals, clause, clauses_from};
 ghost use Rattle.table.specs.Says.{WroteLiterals, WroteClause, WroteClauses};
 
-use crate::fields::read_field;
+use crate::cursor::Cursor;
 use crate::tables::ClauseRoom;
 use gdl::Atom;
 use refusals::Refusal;
 
-// Reads count literals, each below end, into the room from used on, and answers the place after them.
+// Reads count literals, each below end, into the room from used on.
 #[tactic(auto, using(crate::proofs::ClauseRecords::fillings))]
 fn read_literals(
-    s: &[u8],
-    at: usize,
+    cursor: &mut Cursor,
     count: u16,
     end: u32,
     room: &mut [u16; 8192],
     used: usize,
-) -> Result<usize, Refusal>
+) -> Result<(), Refusal>
     requires { used + count ≤ 8192 }
-    ensures { WroteLiterals (literals count end s.now at) room.old used result room.new }
+    ensures same { cursor.new.bytes ≡ cursor.old.bytes }
+    ensures says { WroteLiterals (literals count end cursor.old.bytes.now cursor.old.at) room.old used result cursor.new.at room.new }
 {
-    let mut next = at;
     for k in 0..usize::from(count) {
-        let literal = read_field(s, next, 0, end)?;
-        room[used + k] = literal.value;
-        next = literal.next;
+        room[used + k] = cursor.number(0..end)?;
     }
-    Ok(next)
+    Ok(())
 }
 
 // A clause, less its literals.
@@ -38,54 +35,50 @@ pub struct Outline {
     pub count: u16,
 }
 
-// Reads a clause, its literals into the room from used on; with it goes the place after it.
+// Reads a clause, its literals into the room from used on.
 #[tactic(auto, unfolding(crate::specs::Table::clause))]
 fn read_clause(
-    s: &[u8],
-    at: usize,
+    cursor: &mut Cursor,
     atoms: u16,
     room: &mut [u16; 8192],
     used: usize,
-) -> Result<(Outline, usize), Refusal>
+) -> Result<Outline, Refusal>
     requires { used ≤ 8192 }
-    ensures { WroteClause (clause atoms (8192 - used) s.now at) room.old used result room.new }
+    ensures same { cursor.new.bytes ≡ cursor.old.bytes }
+    ensures says { WroteClause (clause atoms (8192 - used) cursor.old.bytes.now cursor.old.at) room.old used result cursor.new.at room.new }
 {
-    let head = read_field(s, at, 0, u32::from(atoms))?;
-    let count = read_field(s, head.next, 0, 65)?;
-    if 8192 - used < usize::from(count.value) {
-        return Err(Refusal::OutOfRange(head.next));
+    let head = cursor.number(0..u32::from(atoms))?;
+    let start = cursor.at;
+    let count = cursor.number(0..65)?;
+    if 8192 - used < usize::from(count) {
+        return Err(Refusal::OutOfRange(start));
     }
-    let next = read_literals(s, count.next, count.value, 2 * u32::from(atoms), room, used)?;
-    let outline = Outline {
-        head: Atom(head.value),
-        count: count.value,
-    };
-    Ok((outline, next))
+    read_literals(cursor, count, 2 * u32::from(atoms), room, used)?;
+    let head = Atom(head);
+    Ok(Outline { head, count })
 }
 
-// Reads the clause records into lent room, and answers the place after them.
+// Reads the clause records into lent room.
 pub fn read_clauses(
-    s: &[u8],
-    at: usize,
+    cursor: &mut Cursor,
     many: u16,
     atoms: u16,
     room: &mut ClauseRoom,
-) -> Result<usize, Refusal>
+) -> Result<(), Refusal>
     requires { many ≤ 2048 }
-    ensures { WroteClauses (clauses_from many atoms 8192 s.now at) room.old result room.new }
+    ensures same { cursor.new.bytes ≡ cursor.old.bytes }
+    ensures says { WroteClauses (clauses_from many atoms 8192 cursor.old.bytes.now cursor.old.at) room.old result cursor.new.at room.new }
 {
     let n = usize::from(many);
     let mut used: usize = 0;
-    let mut next = at;
     for k in 0..n {
-        let (c, end) = read_clause(s, next, atoms, &mut room.literals, used)?;
+        let c = read_clause(cursor, atoms, &mut room.literals, used)?;
         let count = usize::from(c.count);
         room.owners[used..used + count].fill(c.head.0);
         room.heads[k] = c.head.0;
         room.starts[k] = used as u16;
         used += count;
-        next = end;
     }
     room.starts[n] = used as u16;
-    Ok(next)
+    Ok(())
 }

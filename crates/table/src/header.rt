@@ -3,7 +3,7 @@ ghost use Rattle.std.specs.Prelude.{◌≡◌};
 ghost use Rattle.table.specs.Table.{players, sizes, header};
 ghost use Rattle.table.specs.Says.{says};
 
-use crate::fields::read_field;
+use crate::cursor::Cursor;
 use refusals::Refusal;
 
 #[derive(Clone, Copy)]
@@ -27,45 +27,46 @@ pub struct Header {
     pub sizes: Sizes,
 }
 
-// Each of these answers, beside what it read, the place after it.
+// Each of these reads from a place on, and goes on to the place after what was read.
 #[tactic(auto, unfolding(crate::specs::Table::players))]
-fn read_players(s: &[u8]) -> Result<(Players, usize), Refusal>
-    ensures { says result ≡ players s.now 0 }
+fn read_players(cursor: &mut Cursor) -> Result<Players, Refusal>
+    ensures same { cursor.new.bytes ≡ cursor.old.bytes }
+    ensures says { says result cursor.new.at ≡ players cursor.old.bytes.now cursor.old.at }
 {
-    let version = read_field(s, 0, 1, 2)?;
-    let claim = read_field(s, version.next, 0, 65536)?;
-    let seats = read_field(s, claim.next, 1, 9)?;
-    let chance = read_field(s, seats.next, 0, u32::from(seats.value) + 1)?;
-    let players = Players {
-        claim: claim.value,
-        seats: seats.value,
-        chance: chance.value,
-    };
-    Ok((players, chance.next))
+    let _version = cursor.number(1..2)?;
+    let claim = cursor.number(0..65536)?;
+    let seats = cursor.number(1..9)?;
+    let chance = cursor.number(0..u32::from(seats) + 1)?;
+    Ok(Players {
+        claim,
+        seats,
+        chance,
+    })
 }
 
 #[tactic(auto, unfolding(crate::specs::Table::sizes))]
-fn read_sizes(s: &[u8], at: usize) -> Result<(Sizes, usize), Refusal>
-    ensures { says result ≡ sizes s.now at }
+fn read_sizes(cursor: &mut Cursor) -> Result<Sizes, Refusal>
+    ensures same { cursor.new.bytes ≡ cursor.old.bytes }
+    ensures says { says result cursor.new.at ≡ sizes cursor.old.bytes.now cursor.old.at }
 {
-    let fluents = read_field(s, at, 0, 513)?;
-    let moves = read_field(s, fluents.next, 1, 257)?;
-    let percepts = read_field(s, moves.next, 0, 257)?;
-    let atoms = read_field(s, percepts.next, 1, 1025)?;
-    let sizes = Sizes {
-        fluents: fluents.value,
-        moves: moves.value,
-        percepts: percepts.value,
-        atoms: atoms.value,
-    };
-    Ok((sizes, atoms.next))
+    let fluents = cursor.number(0..513)?;
+    let moves = cursor.number(1..257)?;
+    let percepts = cursor.number(0..257)?;
+    let atoms = cursor.number(1..1025)?;
+    Ok(Sizes {
+        fluents,
+        moves,
+        percepts,
+        atoms,
+    })
 }
 
 #[tactic(auto, unfolding(crate::specs::Table::header))]
-pub fn read_header(s: &[u8]) -> Result<(Header, usize), Refusal>
-    ensures { says result ≡ header s.now 0 }
+pub fn read_header(cursor: &mut Cursor) -> Result<Header, Refusal>
+    ensures same { cursor.new.bytes ≡ cursor.old.bytes }
+    ensures says { says result cursor.new.at ≡ header cursor.old.bytes.now cursor.old.at }
 {
-    let (players, at) = read_players(s)?;
-    let (sizes, next) = read_sizes(s, at)?;
-    Ok((Header { players, sizes }, next))
+    let players = read_players(cursor)?;
+    let sizes = read_sizes(cursor)?;
+    Ok(Header { players, sizes })
 }

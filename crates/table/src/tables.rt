@@ -5,7 +5,7 @@ ghost use Rattle.table.specs.Says.{WroteRest, WroteGame, WroteTable, blank_array
 
 use crate::atoms::read_atoms;
 use crate::clauses::read_clauses;
-use crate::fields::read_field;
+use crate::cursor::Cursor;
 use crate::header::{Header, read_header};
 use refusals::Refusal;
 
@@ -60,26 +60,25 @@ pub struct Read {
 }
 
 // The count of clauses, the clauses, and nothing after, into lent room; the answer is the count.
-#[tactic(auto, using(crate::proofs::Whole::rest_laws, crate::proofs::Values::belows), unfolding(crate::specs::Table::clauses))]
-fn read_rest(s: &[u8], at: usize, atoms: u16, room: &mut ClauseRoom) -> Result<u16, Refusal>
-    ensures { WroteRest (clauses atoms s.now at) room.old result room.new }
+#[tactic(auto, using(crate::proofs::Values::belows), unfolding(crate::specs::Table::clauses))]
+fn read_rest(cursor: &mut Cursor, atoms: u16, room: &mut ClauseRoom) -> Result<u16, Refusal>
+    ensures { WroteRest (clauses atoms cursor.old.bytes.now cursor.old.at) room.old result room.new }
 {
-    let many = read_field(s, at, 0, 2049)?;
-    let end = read_clauses(s, many.next, many.value, atoms, room)?;
-    if end < s.len() {
-        return Err(Refusal::BytesAfter(end));
+    let many = cursor.number(0..2049)?;
+    read_clauses(cursor, many, atoms, room)?;
+    if cursor.at < cursor.bytes.len() {
+        return Err(Refusal::BytesAfter(cursor.at));
     }
-    Ok(many.value)
+    Ok(many)
 }
 
 // The atoms and the clauses of a table whose header was read, into lent arrays; the answer is the count of clauses.
-#[tactic(auto, using(crate::proofs::Whole::game_laws))]
-fn read_game(s: &[u8], at: usize, h: Header, arrays: &mut Arrays) -> Result<u16, Refusal>
+fn read_game(cursor: &mut Cursor, h: Header, arrays: &mut Arrays) -> Result<u16, Refusal>
     requires { h.sizes.atoms ≤ 1024 }
-    ensures { WroteGame (game h s.now at) h result arrays.old arrays.new }
+    ensures { WroteGame (game h cursor.old.bytes.now cursor.old.at) h result arrays.old arrays.new }
 {
-    let next = read_atoms(s, at, h, &mut arrays.atoms)?;
-    read_rest(s, next, h.sizes.atoms, &mut arrays.clauses)
+    read_atoms(cursor, h, &mut arrays.atoms)?;
+    read_rest(cursor, h.sizes.atoms, &mut arrays.clauses)
 }
 
 // The table that the bytes hold, or the first fault in reading order, into lent arrays, since 46 KB would be copied at each answer.
@@ -91,7 +90,8 @@ pub fn read_table(s: &[u8], arrays: &mut Arrays) -> Result<Read, Refusal>
     if 65535 < s.len() {
         return Err(Refusal::TableTooLong);
     }
-    let (header, at) = read_header(s)?;
-    let clauses = read_game(s, at, header, arrays)?;
+    let mut cursor = Cursor { bytes: s, at: 0 };
+    let header = read_header(&mut cursor)?;
+    let clauses = read_game(&mut cursor, header, arrays)?;
     Ok(Read { header, clauses })
 }

@@ -1,6 +1,6 @@
--- Up to record k the room holds the literals read.
+-- Up to literal k the room holds the literals read.
 use Rattle.table.proofs.ClauseRecords.{Filling}
 use Rattle.table.proofs.clauses.read_literals.Given as goal
 
 abbrev pub invariant-loop-k : goal.invariant-loop-k
-invariant-loop-k l = Filling l.fn.s l.fn.at l.fn.count l.fn.end l.initial.room l.fn.used l.room l.k l.next
+invariant-loop-k l = Filling l.fn.count l.fn.end l.initial.cursor l.initial.room l.fn.used l.room l.k l.cursor
