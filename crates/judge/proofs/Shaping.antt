@@ -12,8 +12,8 @@ use Rattle.edges.specs.Graph.{Graph}
 use Rattle.edges.specs.Closure.{Sized}
 use Rattle.edges.specs.Uses.{Ends, Indexed, Index}
 use Rattle.edges.proofs.Drawing.{clauses_graph, graph_sized}
-use Rattle.judge.specs.Arrays.{HeldClauses, ClausesShaped, RolesShaped, EdgesShaped, UsesAsked}
-use Rattle.judge.specs.Judgement.{Held, HoldsGame, LastAsked}
+use Rattle.judge.specs.Arrays.{HeldClauses, ClausesShaped, RolesShaped, HeldEdges, EdgesShaped, HeldUses, UsesAsked}
+use Rattle.judge.specs.Judgement.{Held, HoldsGame, HeldLast, LastAsked}
 use Rattle.gdl.proofs.Layouts.{at_mem}
 use Rattle.judge.proofs.Holding.{clauses_held, head_held, end_held}
 
@@ -28,8 +28,20 @@ start_within k (c ∷ cs) zero = omega arith
 start_within k (c ∷ cs) (suc i) = simp (length-append, length-map) (omega (arith, start_within (k + length c.body) cs i))
 
 module _ {a : AtomArrays} {c : ClauseArrays} {owners : List ℕ} {seats : ℕ} {G : Game} (h : Held a c owners seats G) where
-  held_clauses : HeldClauses a c G
+  pub held_clauses : HeldClauses a c G
   held_clauses = record { kinds_are = h.kinds_are; heads_are = h.heads_are; starts_are = h.starts_are; literals_are = h.literals_are }
+
+  pub held_edges : HeldEdges a.kinds.now owners c.literals.now G
+  held_edges = record { limits = h.limits; kinds_are = h.kinds_are; owners_are = h.owners_are; literals_are = h.literals_are }
+
+  pub held_uses : HeldUses a c owners c.literals.now G
+  held_uses = record { clauses = held_clauses; edges = held_edges }
+
+  pub held_last : HeldLast a c owners c.literals.now seats G
+  held_last = record {
+    edges = held_edges;
+    roles = record { limits = h.limits; kinds_are = h.kinds_are; firsts_are = h.firsts_are; heads_are = h.heads_are; seats_are = h.seats_are };
+  }
 
   kinds_long : length a.kinds.now ≡ length G.atoms
   kinds_long = rw h.kinds_are (length-map G.atoms (λ x. x.kind))

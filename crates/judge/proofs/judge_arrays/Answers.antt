@@ -2,6 +2,8 @@
 use borrow.Author.Rules.{rules}
 use Rattle.edges.specs.Uses.{no_uses, no_nexts}
 use Rattle.judge.proofs.Shaping.{clauses_shaped, ends_indexed, edges_indexed, uses_asked, last_asked}
+use Rattle.std.proofs.lemmas.Result.{err_from_is_err_and}
+use Rattle.judge.proofs.Ordering.{all_uses, all_last}
 use Rattle.judge.proofs.judge_arrays.Goals as goal
 
 pub judge_heads-requires : goal.judge_heads-requires
@@ -19,3 +21,11 @@ judge_uses-requires c = uses_asked _ _ _ _ c.requires.0
 
 pub judge_last-requires : goal.judge_last-requires
 judge_last-requires c = (last_asked _ _ _ _ c.requires.0, c.requires.1)
+
+pub returns-in_err-judge_uses : goal.returns-in_err-judge_uses
+returns-in_err-judge_uses c =
+    let p = err_from_is_err_and c.from_residual-in_err-judge_uses.result c.from_residual-in_err-judge_uses.ensures.1 in
+    rw (p.1, p.2) (all_uses _ _ _ _ c.in_ok-judge_heads.ensures _ c.in_err-judge_uses.ensures _ c.requires.1)
+
+pub returns : goal.returns
+returns c = all_last _ _ _ _ c.in_ok-judge_heads.ensures c.in_ok-judge_uses.ensures _ _ c.judge_last.ensures
