@@ -12,10 +12,9 @@ use Rattle.rules.specs.Accepted.{Accepted}
 use Rattle.session.specs.Shape.{limits_of}
 use Rattle.session.specs.declared.shape.Limits.{Limits}
 use Rattle.truth.specs.Marks.{marks_of}
-use Rattle.verdict.specs.Consulted.{Consulted, found_in, Fit}
+use Rattle.verdict.specs.Consulted.{Consulted, found_in}
 use Rattle.calls.specs.Position.{over, legal, goal}
 use Rattle.calls.proofs.Settled.{settled}
-use Rattle.answers.specs.Asked.{Asked}
 use Rattle.answers.proofs.Reading.{wide_mark, thin_mark}
 
 -- what the limits of a header are

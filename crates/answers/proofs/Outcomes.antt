@@ -1,5 +1,5 @@
 -- What the shared tests' answers say of the game, in the laws' words.
-use mathlib.Core.Path.{◌≡◌, refl, sym, ap, ◌∙◌}
+use mathlib.Core.Path.{◌≡◌, refl, ap, ◌∙◌}
 use mathlib.Core.Bool.{Bool, true, false, not}
 use Prim.Native.Nat.{ℕ, ◌≤◌, ◌<◌}
 use native.Mathlib.Omega.{arith}
@@ -9,7 +9,7 @@ use Rattle.std.specs.Prelude.{Result, Ok, Err, if◌then◌else◌}
 use Rattle.std.specs.Result.{IsErrAnd}
 use Rattle.std.proofs.lemmas.Result.{err_from_is_err_and}
 use Rattle.refusals.specs.declared.Refusal.{Refusal}
-use Rattle.refusals.specs.declared.Refusal.TheVariants.{NoSuchSeat, NoSuchMove, GameOver, BadShape}
+use Rattle.refusals.specs.declared.Refusal.TheVariants.{GameOver, BadShape}
 use Rattle.gdl.specs.Game.{Game}
 use Rattle.session.specs.Shape.{shaped, limits_of}
 use Rattle.session.specs.declared.Session.{Session}
@@ -18,7 +18,7 @@ use Rattle.calls.specs.Position.{over}
 use Rattle.calls.specs.Calls.{offer, play}
 use Rattle.calls.proofs.Returns.{offer_bad_shape, offer_over, play_bad_shape, play_over}
 use Rattle.rules.specs.Verdict.{fit}
-use Rattle.answers.specs.Outcome.{going, seat_in, move_in}
+use Rattle.answers.specs.Outcome.{going, within}
 
 -- what a `?` hands on, where the refusal is known
 pub handed_on : {T : Type 0} (r : Result T Refusal) {x : Refusal} → IsErrAnd r (λ y. y ≡ x) → (z : Refusal) → x ≡ z → r ≡ Err z
@@ -34,34 +34,28 @@ pub record Below (end number place : ℕ) : Type 0 where
 pub below_few : {end number place : ℕ} → Below end number place → {n : ℕ} → end ≤ n → place < n
 below_few {end} {number} b h = omega (arith, leb-false end number b.below)
 
-module _ (G : Game) {l : Limits} (e : l ≡ limits_of G) (number : ℕ) where
-  pub no_seat : {r : Refusal} → Err r ≡ seat_in l number → (r ≡ NoSuchSeat) × (leb G.seats number ≡ true)
-  no_seat {r} q = go (leb G.seats number) refl (rw e at q)
+module _ {end E : ℕ} (e : end ≡ E) (number : ℕ) (f : Refusal) where
+  pub not_below : {r : Refusal} → Err r ≡ within number end f → (r ≡ f) × (leb E number ≡ true)
+  not_below {r} q = go (leb E number) refl (rw e at q)
     where
-      go : (b : Bool) → leb G.seats number ≡ b → ◌≡◌ {A = Result ℕ Refusal} (Err r) (if b then Err NoSuchSeat else Ok number) → (r ≡ NoSuchSeat) × (leb G.seats number ≡ true)
+      go : (b : Bool) → leb E number ≡ b → ◌≡◌ {A = Result ℕ Refusal} (Err r) (if b then Err f else Ok number) → (r ≡ f) × (leb E number ≡ true)
       go true k q = (cc, k)
       go false k q = cc
 
-  pub a_seat : {place : ℕ} → Ok place ≡ seat_in l number → Below G.seats number place
-  a_seat {place} q = go (leb G.seats number) refl (rw e at q)
+  pub is_below : {place : ℕ} → Ok place ≡ within number end f → Below E number place
+  is_below {place} q = go (leb E number) refl (rw e at q)
     where
-      go : (b : Bool) → leb G.seats number ≡ b → ◌≡◌ {A = Result ℕ Refusal} (Ok place) (if b then Err NoSuchSeat else Ok number) → Below G.seats number place
+      go : (b : Bool) → leb E number ≡ b → ◌≡◌ {A = Result ℕ Refusal} (Ok place) (if b then Err f else Ok number) → Below E number place
       go true k q = cc
       go false k q = record { is = cc; below = k }
 
-  pub no_move : {r : Refusal} → Err r ≡ move_in l number → (r ≡ NoSuchMove) × (leb G.moves number ≡ true)
-  no_move {r} q = go (leb G.moves number) refl (rw e at q)
-    where
-      go : (b : Bool) → leb G.moves number ≡ b → ◌≡◌ {A = Result ℕ Refusal} (Err r) (if b then Err NoSuchMove else Ok number) → (r ≡ NoSuchMove) × (leb G.moves number ≡ true)
-      go true k q = (cc, k)
-      go false k q = cc
+-- of the limits of a game
+module _ (G : Game) {l : Limits} (e : l ≡ limits_of G) where
+  pub seats_are : l.seats ≡ G.seats
+  seats_are = ap (λ (x : Limits). x.seats) e
 
-  pub a_move : {place : ℕ} → Ok place ≡ move_in l number → Below G.moves number place
-  a_move {place} q = go (leb G.moves number) refl (rw e at q)
-    where
-      go : (b : Bool) → leb G.moves number ≡ b → ◌≡◌ {A = Result ℕ Refusal} (Ok place) (if b then Err NoSuchMove else Ok number) → Below G.moves number place
-      go true k q = cc
-      go false k q = record { is = cc; below = k }
+  pub moves_are : l.moves ≡ G.moves
+  moves_are = ap (λ (x : Limits). x.moves) e
 
 -- ---- the record
 

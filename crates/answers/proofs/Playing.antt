@@ -28,7 +28,7 @@ use Rattle.calls.specs.Calls.{unchosen, illegal}
 use Rattle.answers.specs.Lowest.{NoneBelow, Lowest, Chosen, lacks, wrongs}
 use Rattle.answers.proofs.Reading.{wide_at, fits, only_fitting}
 use Rattle.answers.proofs.Asking.{MarksIn, Consults, legal_mark}
-use Rattle.answers.proofs.Outcomes.{Goes}
+use Rattle.answers.proofs.Outcomes.{Goes, seats_are}
 use Rattle.answers.proofs.Opening.{position_is}
 
 -- ---- percepts
@@ -63,11 +63,8 @@ module _ (f : ℕ → Bool) where
 -- ---- the tests of play, from what was read
 
 module _ (G : Game) (σ : Session) {l : Limits} (g : Goes G σ l) (ok : Accepted G) where
-  seats_are : l.seats ≡ G.seats
-  seats_are = ap (λ (x : Limits). x.seats) g.limits
-
   here : (f : ℕ → Bool) → lowest f 0 l.seats ≡ lowest f 0 G.seats
-  here f = ap (λ (n : ℕ). lowest f 0 n) seats_are
+  here f = ap (λ (n : ℕ). lowest f 0 n) (seats_are G g.limits)
 
   pub one_lacks : {r : ℕ} → Lowest (lacks σ.choices) l.seats r → lowest (unchosen σ) 0 G.seats ≡ found r
   one_lacks {r} h = sym (here (unchosen σ)) ∙ lowest_found (unchosen σ) l.seats r h
@@ -77,7 +74,7 @@ module _ (G : Game) (σ : Session) {l : Limits} (g : Goes G σ l) (ok : Accepted
     none_lacks = sym (here (unchosen σ)) ∙ lowest_none (unchosen σ) l.seats none
 
     pub all_chose : Chosen σ.choices l.seats
-    all_chose = record { few = omega (arith, seats_are, ok.limits.seats); some = λ s lt. some s (none s lt); within = λ s lt. within s (get_or σ.choices s 0) refl }
+    all_chose = record { few = omega (arith, seats_are G g.limits, ok.limits.seats); some = λ s lt. some s (none s lt); within = λ s lt. within s (get_or σ.choices s 0) refl }
       where
         some : (s : ℕ) → eqb (get_or σ.choices s 0) 0 ≡ false → 1 ≤ get_or σ.choices s 0
         some s n = go (get_or σ.choices s 0) n

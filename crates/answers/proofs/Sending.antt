@@ -18,8 +18,7 @@ use Rattle.session.specs.Shape.{shaped, limits_of}
 use Rattle.session.specs.declared.Session.{Session}
 use Rattle.session.specs.declared.shape.Limits.{Limits}
 use Rattle.session.proofs.Shapes.{shaped_parts}
-use Rattle.message.specs.Message.{from, message_of, Fits}
-use Rattle.message.specs.declared.Sheet.{Sheet}
+use Rattle.message.specs.Message.{from, message_of}
 use Rattle.verdict.specs.Consulted.{Consulted}
 use Rattle.calls.specs.Position.{over, legal, goal}
 use Rattle.calls.specs.Message.{counted, percepts_of, legal_of, goals_of, message_numbers}

@@ -2,14 +2,13 @@
 use mathlib.Core.Path.{◌≡◌, ap, ap₂, ◌∙◌}
 use mathlib.Core.Bool.{Bool, true, false, ◌&&◌}
 use mathlib.Core.List.{List, ◌++◌}
-use Prim.Native.Nat.{ℕ, ◌+◌, ◌-◌, ◌≤◌, ◌<◌}
+use Prim.Native.Nat.{ℕ, ◌≤◌, ◌<◌}
 use native.Mathlib.Omega.{arith}
-use lib.ListN.{length, take, drop, length-append}
+use lib.ListN.{length, take, drop}
 use lib.Seq.{take-append_seam}
 use borrow.Author.Tests.{lt-ltb, le-ltb}
 use Rattle.refusals.specs.declared.Refusal.TheVariants.{Success, BadShape, RoomTooShort}
 use Rattle.gdl.specs.Game.{Game}
-use Rattle.gdl.specs.Flags.{blank}
 use Rattle.gdl.specs.Lists.{every}
 use Rattle.gdl.specs.Computed.{model}
 use Rattle.gdl.proofs.Modelled.{model_length}
@@ -21,6 +20,7 @@ use Rattle.calls.specs.Position.{moved}
 use Rattle.calls.specs.Calls.{truth}
 use Rattle.calls.proofs.Returns.{model_bad_shape, model_no_room, model_done}
 use Rattle.answers.proofs.Asking.{Consults}
+use Rattle.answers.proofs.Outcomes.{seats_are, moves_are}
 
 -- ---- the model call
 
@@ -36,7 +36,7 @@ module _ (G : Game) {l : Limits} (here : l ≡ limits_of G) {c : Consulted} {pos
     module _ (np : p ≡ true) {q : Bool} (eq : q ≡ every (choice_within l.seats l.moves) ch) where
       choices_here : q ≡ choices_shaped G ch
       unfolding choices_shaped
-      choices_here = eq ∙ ap₂ (λ (r m : ℕ). every (choice_within r m) ch) (ap (λ (x : Limits). x.seats) here) (ap (λ (x : Limits). x.moves) here)
+      choices_here = eq ∙ ap₂ (λ (r m : ℕ). every (choice_within r m) ch) (seats_are G here) (moves_are G here)
 
       pub choices_out : q ≡ false → (BadShape, room) ≡ truth (fit G) pos ch room
       choices_out n = model_bad_shape G pos ch room (rw (← position_here, np, ← choices_here, n))

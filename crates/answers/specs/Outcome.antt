@@ -1,7 +1,7 @@
 -- The outcome of tests, and what a call answers by it: what was worked out, or the refusal with what a refusal hands back.
 use Rattle.std.specs.Prelude.{ℕ, leb, not, if◌then◌else◌, Result, Ok, Err}
 use Rattle.refusals.specs.declared.Refusal.{Refusal}
-use Rattle.refusals.specs.declared.Refusal.TheVariants.{Success, NoSuchSeat, NoSuchMove, GameOver, BadShape}
+use Rattle.refusals.specs.declared.Refusal.TheVariants.{Success, GameOver, BadShape}
 use Rattle.gdl.specs.Game.{Game}
 use Rattle.session.specs.Shape.{shaped, limits_of}
 use Rattle.session.specs.declared.Session.{Session}
@@ -15,12 +15,9 @@ use Rattle.calls.specs.declared.Looked.{Looked}
 abbrev pub going : Game → Session → Result Limits Refusal
 going G σ = if not (shaped G σ) then Err BadShape else if over G σ.position then Err GameOver else Ok (limits_of G)
 
--- a seat or a move, if there is one of the number
-abbrev pub seat_in : Limits → ℕ → Result ℕ Refusal
-seat_in l s = if leb l.seats s then Err NoSuchSeat else Ok s
-
-abbrev pub move_in : Limits → ℕ → Result ℕ Refusal
-move_in l m = if leb l.moves m then Err NoSuchMove else Ok m
+-- the number of a seat or a move as a place, if it is below the end
+abbrev pub within : ℕ → ℕ → Refusal → Result ℕ Refusal
+within number end refusal = if leb end number then Err refusal else Ok number
 
 -- "the record is the one given"
 abbrev pub moved_from : Session → Result Session Refusal → Moved

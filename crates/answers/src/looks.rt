@@ -10,7 +10,7 @@ ghost use Rattle.answers.specs.Asked.{Traced};
 ghost use Rattle.answers.specs.Outcome.{looked_from};
 
 use crate::positions::limits_of;
-use crate::shared::{move_in, seat_in};
+use crate::shared::within;
 use calls::Looked;
 use gdl::kinds::Kind;
 use gdl::{Move, Seat};
@@ -23,9 +23,9 @@ fn looked(learnt: &Learnt, asking: Seat, moving: Seat, choice: Move) -> Result<u
     ensures { (G : Game) → Accepted G → found learnt.now ≡ found_in G (reach_of G asking.0) → looked_from result ≡ hidden_from (fit G) asking.0 moving.0 choice.0 }
 {
     let limits = limits_of(learnt.header);
-    seat_in(limits, asking)?;
-    let row = seat_in(limits, moving)?;
-    let column = move_in(limits, choice)?;
+    within(asking.0, limits.seats, Refusal::NoSuchSeat)?;
+    let row = within(moving.0, limits.seats, Refusal::NoSuchSeat)?;
+    let column = within(choice.0, limits.moves, Refusal::NoSuchMove)?;
     let reached = marks_in(learnt, Kind::Does, 256);
     Ok(u8::from(reached[row * 256 + column] != 1))
 }

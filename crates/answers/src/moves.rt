@@ -10,7 +10,7 @@ ghost use Rattle.calls.specs.Calls.{offer};
 ghost use Rattle.answers.specs.Asked.{Asked};
 ghost use Rattle.answers.specs.Outcome.{moved_from};
 
-use crate::shared::{going, move_in, moved_from, seat_in};
+use crate::shared::{going, moved_from, within};
 use calls::Moved;
 use gdl::kinds::Kind;
 use gdl::{Move, Seat};
@@ -24,8 +24,8 @@ fn offered(learnt: &Learnt, session: Session, seat: Seat, choice: Move) -> Resul
     ensures { (G : Game) → Accepted G → found learnt.now ≡ found_in G (model G session.position (blank 8)) → moved_from session result ≡ offer (fit G) session seat.0 choice.0 }
 {
     let limits = going(learnt, session)?;
-    let row = seat_in(limits, seat)?;
-    let column = move_in(limits, choice)?;
+    let row = within(seat.0, limits.seats, Refusal::NoSuchSeat)?;
+    let column = within(choice.0, limits.moves, Refusal::NoSuchMove)?;
     let mut choices = session.choices;
     if choices[row] != 0 {
         return Err(Refusal::AlreadyChosen);

@@ -4,12 +4,11 @@ ghost use Rattle.gdl.specs.Game.{Game};
 ghost use Rattle.gdl.specs.Computed.{model};
 ghost use Rattle.rules.specs.Accepted.{Accepted};
 ghost use Rattle.verdict.specs.Consulted.{found, found_in, Fit};
-ghost use Rattle.answers.specs.Outcome.{going, seat_in, move_in, moved_from};
+ghost use Rattle.answers.specs.Outcome.{going, within, moved_from};
 
 use crate::positions::limits_of;
 use calls::Moved;
 use gdl::kinds::Kind;
-use gdl::{Move, Seat};
 use refusals::Refusal;
 use session::Session;
 use session::shape::{Limits, shaped};
@@ -31,24 +30,14 @@ pub fn going(learnt: &Learnt, session: Session) -> Result<Limits, Refusal>
     Ok(limits)
 }
 
-// "NoSuchSeat": the seat as a place.
-pub fn seat_in(limits: Limits, seat: Seat) -> Result<usize, Refusal>
-    ensures { result ≡ seat_in limits seat.0 }
+// The number of a seat or a move as a place; or the refusal, where the table has none of that number.
+pub fn within(number: u16, end: u16, refusal: Refusal) -> Result<usize, Refusal>
+    ensures { result ≡ within number end refusal }
 {
-    if limits.seats <= seat.0 {
-        return Err(Refusal::NoSuchSeat);
+    if end <= number {
+        return Err(refusal);
     }
-    Ok(usize::from(seat.0))
-}
-
-// "NoSuchMove": the move as a place.
-pub fn move_in(limits: Limits, choice: Move) -> Result<usize, Refusal>
-    ensures { result ≡ move_in limits choice.0 }
-{
-    if limits.moves <= choice.0 {
-        return Err(Refusal::NoSuchMove);
-    }
-    Ok(usize::from(choice.0))
+    Ok(usize::from(number))
 }
 
 // The session that a call goes on with; or a refusal, and the session as it came.

@@ -11,7 +11,7 @@ ghost use Rattle.answers.specs.Asked.{Asked};
 ghost use Rattle.answers.specs.Outcome.{sent_from};
 
 use crate::positions::limits_of;
-use crate::shared::seat_in;
+use crate::shared::within;
 use calls::Sent;
 use gdl::Seat;
 use gdl::kinds::Kind;
@@ -55,7 +55,7 @@ fn told(learnt: &Learnt, session: Session, seat: Seat, room: &mut [u8]) -> Resul
     if !shaped(session, limits) {
         return Err(Refusal::BadShape);
     }
-    seat_in(limits, seat)?;
+    within(seat.0, limits.seats, Refusal::NoSuchSeat)?;
     if room.len() < 1024 {
         return Err(Refusal::RoomTooShort);
     }

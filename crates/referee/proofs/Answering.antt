@@ -27,7 +27,6 @@ use Rattle.calls.specs.declared.Sent.{Sent}
 use Rattle.calls.specs.Calls.{check, claim, open_game, offer, play, message, truth, hidden_from}
 use Rattle.calls.specs.Promises.{CheckPromise, HiddenPromise, ModelPromise}
 use Rattle.calls.proofs.Meeting.{check_meets, hidden_meets, model_meets}
-use Rattle.calls.proofs.Returns.{check_fit, claim_fit}
 use Rattle.answers.specs.Asked.{Asked, Traced}
 
 -- ---- check and claim

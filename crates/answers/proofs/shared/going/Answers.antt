@@ -1,6 +1,4 @@
 -- The record's shape and the end, of the game that was consulted.
-use mathlib.Core.Path.{sym, ap, ◌∙◌}
-use Rattle.std.specs.Prelude.{Ok}
 use Rattle.gdl.specs.Computed.{model}
 use Rattle.answers.proofs.Asking.{limits_are, consults}
 use Rattle.answers.proofs.Offering.{is_over, goes_on_lem}
