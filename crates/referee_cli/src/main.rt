@@ -1,7 +1,6 @@
 // The referee as a co-process: one command a line on standard input, one answer a line on standard output, until the input ends.
 #![tactic(auto)]
 
-ghost use Rattle.std.specs.Prelude.{length};
 ghost use Rattle.feed.specs.Feed.{Held};
 
 use feed::{Feed, Found, new_feed, next_line};
@@ -10,66 +9,55 @@ use lines::text::put_text;
 use std::io::{Read, Write};
 use std::rt::Files;
 
-// Writes an answer and its line end at once, and says whether that was done.
-fn write_line<W: Write>(output: &mut W, room: &mut [u8], length: usize) -> bool {
+// Room for the lines that come, for the current table and for an answer.
+#[derive(Drop)]
+struct Rooms {
+    lines: [u8; 140007],
+    table: [u8; 70000],
+    answer: [u8; 8192],
+}
+
+// Writes an answer and its line end at once; none where there is no room for it, or the write fails.
+fn write_line<W: Write>(output: &mut W, room: &mut [u8], length: usize) -> Option<()> {
     let end = put_text(room, length, b"\n");
-    if room.len() < end {
-        return false;
-    }
-    output.write_all(&room[0..end]).is_ok()
+    output.write_all(room.get(..end)?).ok()
 }
 
-// What is current after an answer, and whether there is more to answer.
-#[derive(Clone, Copy)]
-struct Served {
-    desk: Desk,
-    more: bool,
-}
-
+// What is current after the answer to what was found; none where the input has ended, or the answer could not be written.
 fn reply<F: Files, W: Write>(
     files: &F,
     output: &mut W,
-    lines: &[u8],
+    rooms: &mut Rooms,
     feed: Feed,
-    table: &mut [u8],
     desk: Desk,
-    room: &mut [u8],
-) -> Served
-    requires { Held (length lines.now) feed }
+) -> Option<Desk>
+    requires { Held 140007 feed }
 {
-    let found = feed.found;
-    if let Found::Nothing = found {
-        return Served { desk, more: false };
+    if feed.found == Found::Nothing {
+        return None;
     }
-    let answered = answer_found(files, lines, feed, table, desk, room);
-    let now = answered.desk;
-    Served {
-        desk: now,
-        more: write_line(output, room, answered.length),
-    }
+    let answered = answer_found(
+        files,
+        &rooms.lines,
+        feed,
+        &mut rooms.table,
+        desk,
+        &mut rooms.answer,
+    );
+    write_line(output, &mut rooms.answer, answered.length)?;
+    Some(answered.desk)
 }
 
-// Nothing says that the input ends, so the turns are counted down from a number that no run uses up.
-fn serve<F: Files, R: Read, W: Write>(
-    files: &F,
-    input: &mut R,
-    output: &mut W,
-    lines: &mut [u8],
-    table: &mut [u8],
-    room: &mut [u8],
-) {
+// Nothing says that the input ends, so the turns are as many as no run uses up.
+fn serve<F: Files, R: Read, W: Write>(files: &F, input: &mut R, output: &mut W, rooms: &mut Rooms) {
     let mut feed = new_feed();
     let mut desk = new_desk();
-    let mut turns = u64::MAX;
-    while turns > 0 {
-        feed = next_line(input, lines, feed);
-        let served = reply(files, output, lines, feed, table, desk, room);
-        if !served.more {
+    for _ in 0..u64::MAX {
+        feed = next_line(input, &mut rooms.lines, feed);
+        let Some(after) = reply(files, output, rooms, feed, desk) else {
             return;
-        }
-        let now = served.desk;
-        desk = now;
-        turns -= 1;
+        };
+        desk = after;
     }
 }
 
@@ -77,15 +65,10 @@ fn serve<F: Files, R: Read, W: Write>(
 fn main(rt: HostRuntime) {
     let mut input = rt.stdin();
     let mut output = rt.stdout();
-    let mut lines = [0u8; 140007];
-    let mut table = [0u8; 70000];
-    let mut room = [0u8; 8192];
-    serve(
-        &rt,
-        &mut input,
-        &mut output,
-        &mut lines,
-        &mut table,
-        &mut room,
-    );
+    let mut rooms = Rooms {
+        lines: [0; 140007],
+        table: [0; 70000],
+        answer: [0; 8192],
+    };
+    serve(&rt, &mut input, &mut output, &mut rooms);
 }

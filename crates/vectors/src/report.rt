@@ -1,54 +1,51 @@
 // What is told: how many lines were compared, how many answers differ, and the first that does.
+use std::fmt;
 use std::io::Write;
 
 #[derive(Clone, Copy)]
 pub struct Tally {
-    pub lines: u64,
-    pub differ: u64,
+    lines: u64,
+    differ: u64,
 }
 
-fn one_more(n: u64) -> u64 {
-    if n < u64::MAX {
-        return n + 1;
-    }
-    n
-}
-
-// That a write fails changes nothing of the count.
+// That a write fails changes nothing of the count. What is told is bytes, which need not be text.
 fn write_named<W: Write>(output: &mut W, name: &[u8], text: &[u8]) {
-    let _ = output.write_all(name);
-    let _ = output.write_all(text);
-    let _ = output.write_all(b"\n");
-}
-
-// Counts a line, and shows it if its answer is the first that differs.
-pub fn judge<W: Write>(
-    output: &mut W,
-    tally: Tally,
-    line: &[u8],
-    expected: &[u8],
-    answer: &[u8],
-) -> Tally {
-    let lines = one_more(tally.lines);
-    if check::same(expected, answer) {
-        return Tally {
-            lines,
-            differ: tally.differ,
-        };
-    }
-    if tally.differ == 0 {
-        write_named(output, b"line: ", line);
-        write_named(output, b"expected: ", expected);
-        write_named(output, b"answer: ", answer);
-    }
-    Tally {
-        lines,
-        differ: one_more(tally.differ),
+    for part in [name, text, b"\n"] {
+        let _ = output.write_all(part);
     }
 }
 
-pub fn write_tally<W: Write>(output: &mut W, tally: Tally) {
-    let lines = tally.lines;
-    let differ = tally.differ;
-    let _ = writeln!(output, "{lines} lines, {differ} differ");
+impl Tally {
+    pub fn new() -> Tally {
+        Tally {
+            lines: 0,
+            differ: 0,
+        }
+    }
+
+    // Counts a line, and shows it if its answer is the first that differs.
+    pub fn judge<W: Write>(
+        &mut self,
+        output: &mut W,
+        line: &[u8],
+        expected: &[u8],
+        answer: &[u8],
+    ) {
+        self.lines = self.lines.saturating_add(1);
+        if expected == answer {
+            return;
+        }
+        if self.differ == 0 {
+            write_named(output, b"line: ", line);
+            write_named(output, b"expected: ", expected);
+            write_named(output, b"answer: ", answer);
+        }
+        self.differ = self.differ.saturating_add(1);
+    }
+}
+
+impl fmt::Display for Tally {
+    fn fmt<W: fmt::Write>(&self, f: &mut fmt::Formatter<W>) -> fmt::Result {
+        write!(f, "{} lines, {} differ", self.lines, self.differ)
+    }
 }
