@@ -5,10 +5,10 @@
 mod report; // what is told
 mod run; // the two files, line by line
 
-use report::write_tally;
-use run::run_files;
+use run::{Sources, run_files};
 use std::env::Env;
 use std::fs;
+use std::io::Write;
 use std::rt::Files;
 
 // Opens the file that an argument names; none where it cannot be opened, which is told.
@@ -31,13 +31,10 @@ fn open_argument<R: Env + Files + Eprint>(rt: &R, i: usize) -> Option<R::File> {
 fn main(rt: HostRuntime) {
     let lines = open_argument(&rt, 1);
     let answers = open_argument(&rt, 2);
-    let Some(mut lines) = lines else {
-        return;
-    };
-    let Some(mut answers) = answers else {
+    let (Some(lines), Some(answers)) = (lines, answers) else {
         return;
     };
     let mut output = rt.stdout();
-    let tally = run_files(&rt, &mut output, &mut lines, &mut answers);
-    write_tally(&mut output, tally);
+    let tally = run_files(&rt, &mut output, &mut Sources { lines, answers });
+    let _ = writeln!(output, "{tally}");
 }

@@ -24,13 +24,7 @@ impl Tally {
     }
 
     // Counts a line, and shows it if its answer is the first that differs.
-    pub fn judge<W: Write>(
-        &mut self,
-        output: &mut W,
-        line: &[u8],
-        expected: &[u8],
-        answer: &[u8],
-    ) {
+    pub fn judge<W: Write>(&mut self, output: &mut W, line: &[u8], expected: &[u8], answer: &[u8]) {
         self.lines = self.lines.saturating_add(1);
         if expected == answer {
             return;

@@ -1,5 +1,5 @@
 // The two files, line by line.
-ghost use Rattle.std.specs.Prelude.{◌×◌};
+ghost use Rattle.std.specs.Prelude.{length};
 ghost use Rattle.feed.specs.Feed.{Held};
 
 use crate::report::Tally;
@@ -10,6 +10,7 @@ use std::io::{Read, Write};
 use std::rt::Files;
 
 // The command lines and the answers that are expected.
+#[derive(Drop)]
 pub struct Sources<R> {
     pub lines: R,
     pub answers: R,
@@ -29,6 +30,13 @@ struct Rooms {
 struct Pair {
     line: Feed,
     answer: Feed,
+}
+
+// The bytes of the line that a feed has found.
+fn line_of(room: &[u8], feed: Feed) -> &[u8]
+    requires { Held (length room.now) feed }
+{
+    &room[feed.start..feed.end]
 }
 
 fn next_pair<R: Read>(sources: &mut Sources<R>, rooms: &mut Rooms, pair: Pair) -> Pair
@@ -62,8 +70,8 @@ fn compare<F: Files, W: Write>(
     );
     tally.judge(
         output,
-        &rooms.lines[pair.line.start..pair.line.end],
-        &rooms.answers[pair.answer.start..pair.answer.end],
+        line_of(&rooms.lines, pair.line),
+        line_of(&rooms.answers, pair.answer),
         first_bytes(&rooms.answer, answered.length),
     );
     answered.desk
