@@ -1,10 +1,11 @@
 -- Laws of the answer to a line: one for each return.
 use Prim.Native.Nat.{ℕ, ◌-◌, ◌≤◌, ◌<◌}
 use mathlib.Core.Path.{◌≡◌, refl, sym, ap, ◌∙◌}
-use mathlib.Core.Bool.{Bool, true, false, not}
+use mathlib.Core.Bool.{Bool, true, false}
 use mathlib.Core.List.{List, []}
 use lib.ListN.{length, take}
-use borrow.Author.Tests.{le-leb, lt-leb, lt-ltb, le-ltb, not-true, not-false}
+use borrow.Author.Tests.{le-leb, lt-leb, lt-ltb, le-ltb}
+use Rattle.std.specs.Prelude.{Option, Some, None, Result, Ok, Err}
 use Rattle.rules.specs.Judged.{judge}
 use Rattle.calls.specs.Calls.{claim}
 use Rattle.lines.specs.Words.{words_of, none_empty}
@@ -12,52 +13,51 @@ use Rattle.lines.specs.Hex.{hex_into}
 use Rattle.feed.specs.declared.Found.{Found}
 use Rattle.feed.specs.declared.Found.TheVariants.{Line, Long, Nothing, More}
 use Rattle.commands.specs.Texts.{puts}
-use Rattle.commands.specs.Commands.{command_of, is_unknown, fewest, most}
-use Rattle.commands.specs.Faults.{is_nothing, error_texts}
+use Rattle.commands.specs.Commands.{command_of, fewest, most}
+use Rattle.commands.specs.Faults.{error_texts}
 use Rattle.commands.specs.Numbers.{word_at}
-use Rattle.commands.specs.Replies.{help_texts}
+use Rattle.commands.specs.Replies.{ok_texts, help_texts}
 use Rattle.commands.specs.declared.command.Command.{Command}
 use Rattle.commands.specs.declared.command.Command.TheVariants as C
 use Rattle.commands.specs.declared.fault.Fault.{Fault}
 use Rattle.commands.specs.declared.fault.Fault.TheVariants as F
-use Rattle.interpreter.specs.Said.{Texts, said, Says}
+use Rattle.interpreter.specs.Said.{Texts, said, Says, Tries}
 use Rattle.interpreter.specs.Looks.{CheckSaid, claim_texts, message_texts, HiddenSaid, ModelSaid}
-use Rattle.interpreter.specs.Turns.{Turn, turned, open_turn, offer_turn, play_turn, record_turn}
-use Rattle.interpreter.specs.Tables.{Take, taken, hex_take, file_take, FileTaken}
-use Rattle.interpreter.specs.Desk.{fault_in, with_length, with_table, with_record, Kept, TurnedTo, TakenTo, Meant, LineMeant, FoundMeant, Answers}
+use Rattle.interpreter.specs.Turns.{Turn, turned, wrong, open_turn, offer_turn, play_turn, record_turn, Turns}
+use Rattle.interpreter.specs.Tables.{accepted, take_of, hex_size, file_size, TableLoads}
+use Rattle.interpreter.specs.Desk.{command_in, with_length, with_record, taken, Kept, TurnedTo, TakenTo, Meant, CommandMeant, LineMeant, FoundMeant, Answers, AnswersOr}
 use Rattle.interpreter.specs.declared.desk.Desk.{Desk}
 use Rattle.interpreter.specs.declared.desk.Answered.{Answered}
 use Rattle.interpreter.specs.declared.records.Turned.{Turned}
-use Rattle.interpreter.specs.declared.tables.Taken.{Taken}
 use Rattle.interpreter.proofs.Saying.{says}
 
 -- ---- what is wrong with a line
 
-module _ (line : List ℕ) (c : Command) (s : Bool) (es : s ≡ none_empty (words_of line)) where
-  pub wrong_blanks : not s ≡ true → F.Blanks ≡ fault_in line c
-  unfolding fault_in
-  wrong_blanks h = rw (sym es ∙ not-true s h)
+module _ (line : List ℕ) (s : Bool) (es : s ≡ none_empty (words_of line)) where
+  pub wrong_blanks : s ≡ false → Err F.Blanks ≡ command_in line
+  unfolding command_in
+  wrong_blanks h = rw (sym es ∙ h) refl
 
-  module _ (h : not s ≡ false) (u : Bool) (eu : u ≡ is_unknown c) where
-    pub wrong_command : u ≡ true → F.Command ≡ fault_in line c
-    unfolding fault_in
-    wrong_command k = rw (sym es ∙ not-false s h, sym eu ∙ k)
+  module _ (h : s ≡ true) (w : List ℕ) (ew : w ≡ word_at line 0) where
+    pub wrong_command : None ≡ command_of w → Err F.Command ≡ command_in line
+    unfolding command_in
+    wrong_command k = rw (sym es ∙ h, ← ew, ← k) refl
 
-    module _ (k : u ≡ false) (n : ℕ) (en : n ≡ length (words_of line)) (a : ℕ) (ea : a ≡ fewest c) where
-      pub missing_word : n ≤ a → F.Words ≡ fault_in line c
-      unfolding fault_in
-      missing_word l = rw (sym es ∙ not-false s h, sym eu ∙ k, ← en, ← ea, le-leb n a l)
+    module _ (c : Command) (k : Some c ≡ command_of w) (n : ℕ) (en : n ≡ length (words_of line)) (p : ℕ × ℕ) (ep : p ≡ (fewest c, most c)) where
+      pub missing_word : n ≤ p.0 → Err F.Words ≡ command_in line
+      unfolding command_in
+      missing_word l = rw (sym es ∙ h, ← ew, ← k, ← en, le-leb n (fewest c) (rw ep at l)) refl
 
-      module _ (l : a < n) (b : ℕ) (eb : b ≡ most c) where
-        pub extra_word : b < n - 1 → F.Words ≡ fault_in line c
-        unfolding fault_in
-        extra_word m = rw (sym es ∙ not-false s h, sym eu ∙ k, ← en, ← ea, lt-leb n a l, ← eb, lt-ltb b (n - 1) m)
+      module _ (l : p.0 < n) where
+        pub extra_word : p.1 < n - 1 → Err F.Words ≡ command_in line
+        unfolding command_in
+        extra_word m = rw (sym es ∙ h, ← ew, ← k, ← en, lt-leb n (fewest c) (rw ep at l), lt-ltb (most c) (n - 1) (rw ep at m)) refl
 
-        pub nothing_wrong : n - 1 ≤ b → F.Nothing ≡ fault_in line c
-        unfolding fault_in
-        nothing_wrong m = rw (sym es ∙ not-false s h, sym eu ∙ k, ← en, ← ea, lt-leb n a l, ← eb, le-ltb b (n - 1) m)
+        pub all_words : n - 1 ≤ p.1 → Ok c ≡ command_in line
+        unfolding command_in
+        all_words m = rw (sym es ∙ h, ← ew, ← k, ← en, lt-leb n (fewest c) (rw ep at l), le-ltb (most c) (n - 1) (rw ep at m)) refl
 
-pub ruleset faulting = (wrong_blanks, wrong_command, missing_word, extra_word, nothing_wrong)
+pub ruleset faulting = (wrong_blanks, wrong_command, missing_word, extra_word, all_words)
 
 -- ---- how an answer changes what is current
 
@@ -82,37 +82,72 @@ module _ (table : List ℕ) (desk : Desk) (room after : List ℕ) (r : Answered)
         puts = rw e (ap (λ (x : Turned × List ℕ). (x.0.length, x.1)) s);
       }
 
-  takes_to : (t : Take) (m : Taken) (held : List ℕ) → r ≡ with_table desk m → (m, after) ≡ taken t room → Answers (TakenTo t held desk) room r held after
+module _ (table : List ℕ) (desk : Desk) (room after : List ℕ) where
+  turn_fails : (t : Turn) (f : Fault) → (t ≡ wrong f desk.session) × (after ≡ room) → TurnedTo t table desk (error_texts f) desk table × (after ≡ room)
+  turn_fails t f s = (record { texts = ap (λ (u : Turn). u.texts) (sym s.0); record_turns = rw s.0 refl; table_stays = refl }, s.1)
+
+  look_fails : (M : Texts → Type 0) (f : Fault) → M (error_texts f) × (after ≡ room) → Kept M table desk (error_texts f) desk table × (after ≡ room)
+  look_fails M f s = (record { meant = s.0; desk_stays = refl; table_stays = refl }, s.1)
+
+-- the table is taken, or was not
+module _ (desk : Desk) (room after : List ℕ) where
+  pub took : (size n : ℕ) → (n, after) ≡ puts (ok_texts size) (0, room) → ◌≡◌ {A = Answered × List ℕ} (record { desk = record { table = size; session = desk.session }; length = n }, after) (taken desk (accepted size) room)
+  unfolding taken said
+  took size n e = rw (← e) refl
+
+  takes_to : (held : List ℕ) (h : Result ℕ Fault) (size : ℕ) (r : Answered) → Ok size ≡ h → (r, after) ≡ taken desk (accepted size) room → Answers (TakenTo (take_of desk.table h) held desk) room r held after
   unfolding taken
-  takes_to t m held e s =
-      let size : m.table ≡ t.table = ap (λ (x : Taken × List ℕ). x.0.table) s in
-      record {
-        texts = t.texts;
-        meant = record { texts = refl; table_turns = rw (e, size) refl; table_holds = refl };
-        puts = rw e (ap (λ (x : Taken × List ℕ). (x.0.length, x.1)) s);
-      }
+  takes_to held h size r e s =
+      rw (← e) (record {
+        texts = ok_texts size;
+        meant = record { texts = refl; table_turns = ap (λ (x : Answered × List ℕ). x.0.desk) s; table_holds = refl };
+        puts = ap (λ (x : Answered × List ℕ). (x.0.length, x.1)) s;
+      })
+
+  take_fails : (held : List ℕ) (h : Result ℕ Fault) (f : Fault) → Err f ≡ h → TakenTo (take_of desk.table h) held desk (error_texts f) desk held
+  take_fails held h f e = rw (← e) (record { texts = refl; table_turns = refl; table_holds = refl })
 
 -- ---- the commands
 
+module _ (line table : List ℕ) (desk : Desk) (room after : List ℕ) (c : Command) where
+  module _ (e : c ≡ C.Table) (w : List ℕ) (ew : w ≡ word_at line 1) (held : List ℕ) (eh : held ≡ (hex_into w table).1) where
+    pub answers_table : (size : ℕ) → Ok size ≡ hex_size (hex_into w table).0 → (r : Answered) → (r, after) ≡ taken desk (accepted size) room → Answers (Meant line c table desk) room r held after
+    answers_table size es r s = rw (e, ← ew, ← eh) (takes_to desk room after held (hex_size (hex_into w table).0) size r es s)
+
+    pub fails_table : (f : Fault) → Err f ≡ hex_size (hex_into w table).0 → Meant line c table desk (error_texts f) desk held × (room ≡ room)
+    fails_table f ef = (rw (e, ← ew, ← eh) (take_fails desk room after held (hex_size (hex_into w table).0) f ef), refl)
+
+  module _ (e : c ≡ C.Load) (held : List ℕ) where
+    pub answers_load : (size : ℕ) → TableLoads table held (Ok size) → (r : Answered) → (r, after) ≡ taken desk (accepted size) room → Answers (Meant line c table desk) room r held after
+    answers_load size l r s =
+        let a = takes_to desk room after held (file_size l.given) size r l.tells s in
+        rw e (record { texts = a.texts; meant = record { given = l.given; promised = l.promised; takes = a.meant }; puts = a.puts })
+
+    pub fails_load : (f : Fault) → TableLoads table held (Err f) → Meant line c table desk (error_texts f) desk held × (room ≡ room)
+    fails_load f l = (rw e (record { given = l.given; promised = l.promised; takes = take_fails desk room after held (file_size l.given) f l.tells }), refl)
+
+  pub fails_record : c ≡ C.Record → (f : Fault) → Turns (record_turn line desk.session) desk.session room (Err f) after → Meant line c table desk (error_texts f) desk table × (after ≡ room)
+  fails_record e f s = rw e (turn_fails table desk room after (record_turn line desk.session) f s)
+
+  module _ (on : List ℕ) (eo : on ≡ take desk.table table) (f : Fault) where
+    pub fails_message : c ≡ C.Message → Tries (λ t. t ≡ message_texts line (judge on) desk.session) room (Err f) after → Meant line c table desk (error_texts f) desk table × (after ≡ room)
+    fails_message e s = rw (e, ← eo) (look_fails table desk room after (λ t. t ≡ message_texts line (judge on) desk.session) f s)
+
+    pub fails_hidden : c ≡ C.Hidden → Tries (HiddenSaid line (judge on)) room (Err f) after → Meant line c table desk (error_texts f) desk table × (after ≡ room)
+    fails_hidden e s = rw (e, ← eo) (look_fails table desk room after (HiddenSaid line (judge on)) f s)
+
+    pub fails_model : c ≡ C.Model → Tries (ModelSaid line (judge on)) room (Err f) after → Meant line c table desk (error_texts f) desk table × (after ≡ room)
+    fails_model e s = rw (e, ← eo) (look_fails table desk room after (ModelSaid line (judge on)) f s)
+
+    pub fails_offer : c ≡ C.Offer → Turns (offer_turn line (judge on) desk.session) desk.session room (Err f) after → Meant line c table desk (error_texts f) desk table × (after ≡ room)
+    fails_offer e s = rw (e, ← eo) (turn_fails table desk room after (offer_turn line (judge on) desk.session) f s)
+
 module _ (line table : List ℕ) (desk : Desk) (room after : List ℕ) (r : Answered) (c : Command) where
-  pub answers_table : c ≡ C.Table → (m : Taken) → r ≡ with_table desk m → (w : List ℕ) → w ≡ word_at line 1 → (m, after) ≡ taken (hex_take desk.table (hex_into w table).0) room
-      → (held : List ℕ) → held ≡ (hex_into w table).1 → Answers (Meant line c table desk) room r held after
-  answers_table e m er w ew s held eh = rw (e, ← ew, ← eh) (takes_to table desk room after r (hex_take desk.table (hex_into w table).0) m held er s)
-
-  pub answers_load : c ≡ C.Load → (m : Taken) → r ≡ with_table desk m → (held : List ℕ) → FileTaken desk.table table room held (m, after)
-      → Answers (Meant line c table desk) room r held after
-  answers_load e m er held f =
-      let a = takes_to table desk room after r (file_take desk.table f.given) m held er f.tells in
-      rw e (record { texts = a.texts; meant = record { given = f.given; promised = f.promised; takes = a.meant }; puts = a.puts })
-
   pub answers_record : c ≡ C.Record → (m : Turned) → r ≡ with_record desk m → (m, after) ≡ turned (record_turn line desk.session) room → Answers (Meant line c table desk) room r table after
   answers_record e m er s = rw e (turns_to table desk room after r (record_turn line desk.session) m er s)
 
   pub answers_help : c ≡ C.Help → (n : ℕ) → r ≡ with_length desk n → (n, after) ≡ puts help_texts (0, room) → Answers (Meant line c table desk) room r table after
   answers_help e n er s = rw e (kept_said table desk room after r help_texts n er (says room (n, after) help_texts s))
-
-  pub answers_unknown : c ≡ C.Unknown → (n : ℕ) → r ≡ with_length desk n → (n, after) ≡ puts (error_texts F.Command) (0, room) → Answers (Meant line c table desk) room r table after
-  answers_unknown e n er s = rw e (kept_said table desk room after r (error_texts F.Command) n er (says room (n, after) (error_texts F.Command) s))
 
   module _ (on : List ℕ) (eo : on ≡ take desk.table table) where
     pub answers_check : c ≡ C.Check → (n : ℕ) → r ≡ with_length desk n → Says (CheckSaid on) room (n, after) → Answers (Meant line c table desk) room r table after
@@ -121,8 +156,8 @@ module _ (line table : List ℕ) (desk : Desk) (room after : List ℕ) (r : Answ
     pub answers_claim : c ≡ C.Claim → (n : ℕ) → r ≡ with_length desk n → (n, after) ≡ said (claim_texts (claim (judge on))) room → Answers (Meant line c table desk) room r table after
     answers_claim e n er s = rw (e, ← eo) (kept_said table desk room after r (claim_texts (claim (judge on))) n er s)
 
-    pub answers_message : c ≡ C.Message → (n : ℕ) → r ≡ with_length desk n → (n, after) ≡ said (message_texts line (judge on) desk.session) room → Answers (Meant line c table desk) room r table after
-    answers_message e n er s = rw (e, ← eo) (kept_said table desk room after r (message_texts line (judge on) desk.session) n er s)
+    pub answers_message : c ≡ C.Message → (n : ℕ) → r ≡ with_length desk n → Says (λ t. t ≡ message_texts line (judge on) desk.session) room (n, after) → Answers (Meant line c table desk) room r table after
+    answers_message e n er s = rw (e, ← eo) (kept_says table desk room after r (λ t. t ≡ message_texts line (judge on) desk.session) n er s)
 
     pub answers_hidden : c ≡ C.Hidden → (n : ℕ) → r ≡ with_length desk n → Says (HiddenSaid line (judge on)) room (n, after) → Answers (Meant line c table desk) room r table after
     answers_hidden e n er s = rw (e, ← eo) (kept_says table desk room after r (HiddenSaid line (judge on)) n er s)
@@ -140,19 +175,23 @@ module _ (line table : List ℕ) (desk : Desk) (room after : List ℕ) (r : Answ
       pub answers_play : c ≡ C.Play → (m, after) ≡ turned (play_turn (judge on) desk.session) room → Answers (Meant line c table desk) room r table after
       answers_play e s = rw (e, ← eo) (turns_to table desk room after r (play_turn (judge on) desk.session) m er s)
 
-pub ruleset answerings = (answers_table, answers_load, answers_record, answers_help, answers_unknown, answers_check, answers_claim, answers_message, answers_hidden, answers_model, answers_open, answers_offer, answers_play)
+pub ruleset answerings = (answers_table, fails_table, answers_load, fails_load, answers_record, fails_record, answers_help, answers_check, answers_claim, answers_message, fails_message, answers_hidden, fails_hidden, answers_model, fails_model, answers_open, answers_offer, fails_offer, answers_play)
 
 -- ---- a line, and what was found
 
-module _ (line table : List ℕ) (desk : Desk) (room after : List ℕ) (r : Answered) (w : List ℕ) (ew : w ≡ word_at line 0) (c : Command) (ec : c ≡ command_of w) (f : Fault)
-    (ef : f ≡ fault_in line c) (n : Bool) (en : n ≡ is_nothing f) where
-  pub line_wrong : not n ≡ true → (k : ℕ) → r ≡ with_length desk k → (k, after) ≡ puts (error_texts f) (0, room) → Answers (LineMeant line table desk) room r table after
+module _ (line table : List ℕ) (desk : Desk) (room : List ℕ) where
+  pub line_wrong : (f : Fault) → Err f ≡ command_in line → LineMeant line table desk (error_texts f) desk table × (room ≡ room)
   unfolding LineMeant
-  line_wrong h k er s = rw (← ew, ← ec, ← ef, sym en ∙ not-true n h) (kept_said table desk room after r (error_texts f) k er (says room (k, after) (error_texts f) s))
+  line_wrong f e = (rw (← e) (record { meant = refl; desk_stays = refl; table_stays = refl }), refl)
 
-  pub line_right : not n ≡ false → (held : List ℕ) → Answers (Meant line c table desk) room r held after → Answers (LineMeant line table desk) room r held after
+  pub line_right : (c : Command) → Ok c ≡ command_in line → (x : Result Answered Fault) (held after : List ℕ) → AnswersOr (Meant line c table desk) desk room x held after → AnswersOr (LineMeant line table desk) desk room x held after
   unfolding LineMeant
-  line_right h held a = rw (← ew, ← ec, ← ef, sym en ∙ not-false n h) a
+  line_right c e x held after a = rw (← e) a
+
+-- the fault is told
+pub fault_told : (M : Texts → Desk → List ℕ → Type 0) (desk : Desk) (room held now after : List ℕ) (f : Fault) → M (error_texts f) desk held × (now ≡ room) → (n : ℕ) (r : Answered) → r ≡ with_length desk n → (n, after) ≡ puts (error_texts f) (0, now)
+    → Answers M room r held after
+fault_told M desk room held now after f m n r er s = rw er (record { texts = error_texts f; meant = m.0; puts = says room (n, after) (error_texts f) (rw m.1 at s) })
 
 module _ (line table : List ℕ) (desk : Desk) (room after : List ℕ) (r : Answered) (f : Found) where
   pub found_line : f ≡ Line → (held : List ℕ) → Answers (LineMeant line table desk) room r held after → Answers (FoundMeant f line table desk) room r held after
@@ -172,4 +211,4 @@ module _ (line table : List ℕ) (desk : Desk) (room : List ℕ) (r : Answered) 
   pub found_more : f ≡ More → Answers (FoundMeant f line table desk) room r table room
   found_more e = rw e (kept_said table desk room room r [] 0 er silent)
 
-pub ruleset linings = (line_wrong, line_right, found_line, found_long, found_nothing, found_more)
+pub ruleset linings = (line_wrong, line_right, fault_told, found_line, found_long, found_nothing, found_more)

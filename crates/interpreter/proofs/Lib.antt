@@ -1,5 +1,4 @@
 pub mod Saying
 pub mod Looking
 pub mod Turning
-pub mod Taking
 pub mod Answering

@@ -1,9 +1,11 @@
 -- Laws of the commands that change nothing: one for each return.
 use Prim.Native.Nat.{ℕ, zero, suc, ◌+◌, ◌-◌, ◌≤◌, ◌<◌}
 use native.Mathlib.Omega.{arith}
-use native.Mathlib.Numerals.{add-one}
 use mathlib.Core.Path.{◌≡◌, refl, sym, ap, ◌∙◌}
-use mathlib.Core.Bool.{Bool, true, false, not}
+use mathlib.Core.Bool.{Bool, true, false}
+use Rattle.std.specs.Prelude.{Option, Ok, MatchOption, unwrap_or}
+use Rattle.std.specs.List.{AllWithin, HoldsAt}
+use Rattle.std.proofs.lemmas.Iterator.{index_from_first}
 use mathlib.Core.List.{List, [], ◌∷◌}
 use lib.Dec.{ltb}
 use lib.ListN.{length, get_or, take, drop, replicate, drop_of_length-le}
@@ -18,54 +20,26 @@ use Rattle.calls.specs.declared.Sent.{Sent}
 use Rattle.calls.specs.declared.Looked.{Looked}
 use Rattle.calls.specs.Calls.{claim, message}
 use Rattle.calls.specs.Promises.{CheckPromise, HiddenPromise, ModelPromise}
-use Rattle.lines.specs.declared.decimal.Decimal.{Decimal}
 use Rattle.commands.specs.Texts.{puts}
-use Rattle.commands.specs.Faults.{is_nothing, first_of, error_texts}
-use Rattle.commands.specs.Numbers.{word_at, number_at, room_at, value_of, fault_of}
+use Rattle.commands.specs.Faults.{error_texts}
+use Rattle.commands.specs.Numbers.{word_at, number_at, room_at}
 use Rattle.commands.specs.Placing.{placed}
 use Rattle.commands.specs.Replies.{refusal_texts, more_texts, bytes_texts}
-use Rattle.commands.specs.declared.fault.Fault.{Fault}
 use Rattle.commands.specs.declared.position.Placed.{Placed}
 use Rattle.interpreter.specs.Said.{said, Says}
-use Rattle.interpreter.specs.Looks.{CheckSaid, claim_texts, sent_texts, message_texts, looked_texts, HiddenTold, HiddenSaid, flags_in, model_texts, no_flags, ModelTold, ModelSaid}
-use Rattle.interpreter.proofs.Saying.{says, says_two, says_three, says_error, says_right, tells_error, tells_right}
-
--- ---- the first bytes, so many or all
-
-module _ (room : List ℕ) (many : ℕ) where
-  pub so_many : take (many - 0) room ≡ take many room
-  so_many = let e : many - 0 ≡ many = omega arith in rw e refl
-
-  pub all_of_them : length room < many → room ≡ take many room
-  all_of_them h = sym (take_all many room (omega arith))
+use Rattle.interpreter.specs.Looks.{CheckSaid, claim_texts, sent_texts, message_texts, looked_texts, HiddenTold, hidden_numbers, HiddenSaid, flags_in, model_texts, no_flags, ModelTold, model_words, ModelSaid}
+use Rattle.interpreter.proofs.Saying.{says, says_two, says_three}
 
 -- ---- the flags before the first byte that is none
 
-pub record Flagging (lent : List ℕ) (i : ℕ) : Type 0 where
-  pub within : i ≤ length lent
-  pub rest : length (flags_in lent) ≡ i + length (flags_in (drop i lent))
+pub flags_before : (lent : List ℕ) (r : Option ℕ) → MatchOption r (AllWithin (λ (x : ℕ). x ≤ 1) lent 0 (length lent)) (λ i. (i < length lent) × HoldsAt (λ (x : ℕ). 1 < x) lent i × AllWithin (λ (x : ℕ). x ≤ 1) lent 0 i) → length (flags_in lent) ≡ unwrap_or r (length lent)
+flags_before lent r first = index_from_first (λ l. length (flags_in l)) (λ (x : ℕ). 1 < x) (λ (x : ℕ). x ≤ 1) refl hit miss lent r first
+  where
+    hit : (b : ℕ) (bs : List ℕ) → 1 < b → length (flags_in (b ∷ bs)) ≡ 0
+    hit b bs h = rw (lt-ltb 1 b h) refl
 
-module _ (lent : List ℕ) where
-  pub flagging_starts : Flagging lent 0
-  flagging_starts = record { within = omega arith; rest = omega arith }
-
-  module _ (i : ℕ) (s : Flagging lent i) where
-    module _ (h : i < length lent) where
-      here : flags_in (drop i lent) ≡ flags_in (get_or lent i 0 ∷ drop (suc i) lent)
-      here = ap flags_in (drop-cons lent i 0 h)
-
-      pub flagging_stops : 1 < get_or lent i 0 → i ≡ length (flags_in lent)
-      flagging_stops k = let e : length (flags_in (drop i lent)) ≡ 0 = rw here (rw (lt-ltb 1 (get_or lent i 0) k) refl) in omega (arith, e, s.rest)
-
-      pub flagging_goes : get_or lent i 0 ≤ 1 → Flagging lent (i + 1)
-      flagging_goes k =
-          let e : length (flags_in (drop i lent)) ≡ suc (length (flags_in (drop (suc i) lent))) = rw here (rw (le-ltb 1 (get_or lent i 0) k) refl) in
-          record { within = omega arith; rest = rw (add-one i) (omega (arith, e, s.rest)) }
-
-    pub flagging_ends : length lent ≤ i → i ≡ length (flags_in lent)
-    flagging_ends h = let e : length (flags_in (drop i lent)) ≡ 0 = rw (drop_of_length-le lent h) refl in omega (arith, e, s.rest)
-
-pub ruleset flaggings = (flagging_starts, flagging_stops, flagging_goes, flagging_ends)
+    miss : (b : ℕ) (bs : List ℕ) → b ≤ 1 → length (flags_in (b ∷ bs)) ≡ length (flags_in bs) + 1
+    miss b bs h = rw (le-ltb 1 b h) (omega arith)
 
 -- what stands before it is the flags
 flags_first : (lent : List ℕ) → take (length (flags_in lent)) lent ≡ flags_in lent
@@ -135,42 +109,19 @@ module _ (room : List ℕ) (x : ℕ × List ℕ) (v : Verdict) (many : ℕ) (sma
   pub lends_model : lent ≡ no_flags 65535 → (pos ch : List ℕ) → Says (ModelTold v pos ch (take (many - 0) lent)) room x → Says (ModelTold v pos ch (no_flags many)) room x
   lends_model e pos ch f = rw (lent_part 255 many lent small e) at f
 
--- ---- the numbers of a line, and what is wrong with them
+-- ---- the words of a line
 
 module _ (room : List ℕ) (x : ℕ × List ℕ) (line : List ℕ) (v : Verdict) where
-  module _ (σ : Session) (seat lent : Decimal) (es : seat ≡ number_at line 1) (el : lent ≡ room_at line 2) (a b f : Fault) (ea : a ≡ fault_of seat) (eb : b ≡ fault_of lent)
-      (ef : f ≡ first_of a b) (n : Bool) (en : n ≡ is_nothing f) where
-    fault : f ≡ first_of (fault_of (number_at line 1)) (fault_of (room_at line 2))
-    fault = rw (← es, ← el, ← ea, ← eb) ef
+  pub says_message : (σ : Session) (z many : ℕ) → Ok z ≡ number_at line 1 → Ok many ≡ room_at line 2 → x ≡ said (sent_texts (message v σ z (blank many))) room → Says (λ t. t ≡ message_texts line v σ) room x
+  unfolding message_texts
+  says_message σ z many ez em k = record { texts = sent_texts (message v σ z (blank many)); meant = rw (← ez, ← em) refl; puts = k }
 
-    pub message_wrong : not n ≡ true → x ≡ puts (error_texts f) (0, room) → x ≡ said (message_texts line v σ) room
-    unfolding message_texts
-    message_wrong h k = rw (← fault) (says_error f n en room x h k _)
+  pub says_hidden : (p q r : ℕ) → Ok p ≡ number_at line 1 → Ok q ≡ number_at line 2 → Ok r ≡ number_at line 3 → Says (HiddenTold v p q r) room x → Says (HiddenSaid line v) room x
+  unfolding hidden_numbers
+  says_hidden p q r ep eq er k = rw (← ep, ← eq, ← er) k
 
-    pub message_right : not n ≡ false → (z many : ℕ) → z ≡ value_of seat → many ≡ value_of lent → x ≡ said (sent_texts (message v σ z (blank many))) room → x ≡ said (message_texts line v σ) room
-    unfolding message_texts
-    message_right h z many ez em k = rw (← fault, ← es, ← el, ← ez, ← em) (says_right f n en room x h _ k)
+  pub says_modelled : (p : Placed) (many : ℕ) → Ok p ≡ placed (word_at line 1) (word_at line 2) → Ok many ≡ room_at line 3 → Says (ModelTold v p.position p.choices (no_flags many)) room x → Says (ModelSaid line v) room x
+  unfolding model_words
+  says_modelled p many ep em k = rw (← ep, ← em) k
 
-  module _ (asking moving m : Decimal) (e₁ : asking ≡ number_at line 1) (e₂ : moving ≡ number_at line 2) (e₃ : m ≡ number_at line 3) (a b d g f : Fault) (ea : a ≡ fault_of asking)
-      (eb : b ≡ fault_of moving) (ed : d ≡ fault_of m) (eg : g ≡ first_of b d) (ef : f ≡ first_of a g) (n : Bool) (en : n ≡ is_nothing f) where
-    faults : f ≡ first_of (fault_of (number_at line 1)) (first_of (fault_of (number_at line 2)) (fault_of (number_at line 3)))
-    faults = rw (← e₁, ← e₂, ← e₃, ← ea, ← eb, ← ed, ← eg) ef
-
-    pub hidden_wrong : not n ≡ true → x ≡ puts (error_texts f) (0, room) → Says (HiddenSaid line v) room x
-    hidden_wrong h k = rw (← faults) (tells_error f n en room x h k _)
-
-    pub hidden_right : not n ≡ false → (p q r : ℕ) → p ≡ value_of asking → q ≡ value_of moving → r ≡ value_of m → Says (HiddenTold v p q r) room x → Says (HiddenSaid line v) room x
-    hidden_right h p q r ep eq er k = rw (← faults, ← e₁, ← e₂, ← e₃, ← ep, ← eq, ← er) (tells_right f n en room x h _ k)
-
-  module _ (p : Placed) (w u : List ℕ) (ep : p ≡ placed w u) (ew : w ≡ word_at line 1) (eu : u ≡ word_at line 2) (lent : Decimal) (el : lent ≡ room_at line 3) (b f : Fault)
-      (eb : b ≡ fault_of lent) (ef : f ≡ first_of p.fault b) (n : Bool) (en : n ≡ is_nothing f) where
-    misplaced : f ≡ first_of (placed (word_at line 1) (word_at line 2)).fault (fault_of (room_at line 3))
-    misplaced = rw (← ew, ← eu, ← ep, ← el, ← eb) ef
-
-    pub model_wrong : not n ≡ true → x ≡ puts (error_texts f) (0, room) → Says (ModelSaid line v) room x
-    model_wrong h k = rw (← misplaced) (tells_error f n en room x h k _)
-
-    pub model_right : not n ≡ false → (many : ℕ) → many ≡ value_of lent → Says (ModelTold v p.position p.choices (no_flags many)) room x → Says (ModelSaid line v) room x
-    model_right h many em k = rw (← misplaced, ← ew, ← eu, ← ep, ← el, ← em) (tells_right f n en room x h _ k)
-
-pub ruleset lookings = (so_many, all_of_them, says_check, says_claim, says_sent, says_looked, says_model, lends_message, lends_model, message_wrong, message_right, hidden_wrong, hidden_right, model_wrong, model_right)
+pub ruleset lookings = (says_check, says_claim, says_sent, says_looked, says_model, lends_message, lends_model, says_message, says_hidden, says_modelled)

@@ -51,7 +51,7 @@ hidden_numbers line = do
   Ok (asking, moving, m)
 
 abbrev pub HiddenSaid : List ℕ → Verdict → Texts → Type 0
-HiddenSaid line v = ToldOrError (ℕ × ℕ × ℕ) (hidden_numbers line) (λ q. HiddenTold v q.0 q.1 q.2)
+HiddenSaid line v = ToldOrError (hidden_numbers line) (λ q. HiddenTold v q.0 q.1 q.2)
 
 -- the flags before the first byte that is none
 abbrev pub flags_in : List ℕ → List ℕ
@@ -76,4 +76,4 @@ model_words line = do
   Ok (p, lent)
 
 abbrev pub ModelSaid : List ℕ → Verdict → Texts → Type 0
-ModelSaid line v = ToldOrError (Placed × ℕ) (model_words line) (λ q. ModelTold v q.0.position q.0.choices (no_flags q.1))
+ModelSaid line v = ToldOrError (model_words line) (λ q. ModelTold v q.0.position q.0.choices (no_flags q.1))

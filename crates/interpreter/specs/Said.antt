@@ -40,10 +40,6 @@ pub record Told (A : Type 0) (Promise : A → Type 0) (tell : A → Texts) (t : 
   pub tells : t ≡ tell given
 
 -- what is meant of the words of a line, or "error WHAT"
-abbrev pub MeantOrError : {A : Type 0} → Result A Fault → (A → Texts → Type 0) → Texts → Type 0
-MeantOrError (Ok a) Meant t = Meant a t
-MeantOrError (Err f) Meant t = t ≡ error_texts f
-
--- the same, as a fact
-pub record ToldOrError (A : Type 0) (x : Result A Fault) (Meant : A → Texts → Type 0) (t : Texts) : Type 0 where
-  pub either : MeantOrError x Meant t
+abbrev pub ToldOrError : {A : Type 0} → Result A Fault → (A → Texts → Type 0) → Texts → Type 0
+ToldOrError (Ok a) Meant t = Meant a t
+ToldOrError (Err f) Meant t = t ≡ error_texts f

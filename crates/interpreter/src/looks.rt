@@ -56,6 +56,7 @@ fn lend_message(table: &[u8], session: Session, seat: Seat, many: u16, room: &mu
     put_message(table, session, seat, &mut lent[..end], room)
 }
 
+#[tactic(auto, using(crate::proofs::Looking::lookings), unfolding(crate::specs::Looks::message_texts))]
 pub fn message(
     line: &[u8],
     table: &[u8],
@@ -78,6 +79,7 @@ fn put_hidden(table: &[u8], asking: Seat, moving: Seat, choice: Move, room: &mut
     put_more(room, at, u64::from(looked.hidden))
 }
 
+#[tactic(auto, using(crate::proofs::Looking::lookings), unfolding(crate::specs::Looks::hidden_numbers))]
 pub fn hidden(line: &[u8], table: &[u8], room: &mut [u8]) -> Result<usize, Fault>
     ensures { Tries (HiddenSaid line.now (judge table.now)) room.old result room.new }
 {
@@ -97,7 +99,7 @@ pub fn hidden(line: &[u8], table: &[u8], room: &mut [u8]) -> Result<usize, Fault
 fn flags_in(lent: &[u8]) -> usize
     ensures { result ≡ length (flags_in lent.now) }
 {
-    lent.iter().take_while(|b| **b <= 1).count()
+    lent.iter().position(|b| 1 < *b).unwrap_or(lent.len())
 }
 
 // "NUMBER PLACE HEX": the first A flags. Before the call the lent room holds no flag.
@@ -119,6 +121,7 @@ fn lend_model(table: &[u8], placed: &Placed, many: u16, room: &mut [u8]) -> usiz
     put_model(table, placed, &mut lent[..end], room)
 }
 
+#[tactic(auto, using(crate::proofs::Looking::lookings), unfolding(crate::specs::Looks::model_words))]
 pub fn model(line: &[u8], table: &[u8], room: &mut [u8]) -> Result<usize, Fault>
     ensures { Tries (ModelSaid line.now (judge table.now)) room.old result room.new }
 {

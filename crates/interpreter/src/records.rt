@@ -31,12 +31,14 @@ fn moved(room: &mut [u8], moved: Moved) -> Turned
     }
 }
 
+#[tactic(auto, using(crate::proofs::Turning::turnings))]
 pub fn open(table: &[u8], room: &mut [u8]) -> Turned
     ensures { (result, room.new) ≡ turned (open_turn (judge table.now)) room.old }
 {
     moved(room, referee::open_game(table))
 }
 
+#[tactic(auto, using(crate::proofs::Turning::turnings), unfolding(crate::specs::Turns::offer_turn))]
 pub fn offer(
     line: &[u8],
     table: &[u8],
@@ -53,6 +55,7 @@ pub fn offer(
     ))
 }
 
+#[tactic(auto, using(crate::proofs::Turning::turnings))]
 pub fn play(table: &[u8], session: Session, room: &mut [u8]) -> Turned
     ensures { (result, room.new) ≡ turned (play_turn (judge table.now) session) room.old }
 {
