@@ -5,7 +5,7 @@ use mathlib.Core.Bool.{Bool, true, false}
 use mathlib.Core.List.{List, []}
 use lib.ListN.{length, take}
 use borrow.Author.Tests.{le-leb, lt-leb, lt-ltb, le-ltb}
-use Rattle.std.specs.Prelude.{Option, Some, None, Result, Ok, Err}
+use Rattle.std.specs.Prelude.{Some, None, Result, Ok, Err, IsErrAnd}
 use Rattle.rules.specs.Judged.{judge}
 use Rattle.calls.specs.Calls.{claim}
 use Rattle.lines.specs.Words.{words_of, none_empty}
@@ -25,7 +25,7 @@ use Rattle.interpreter.specs.Said.{Texts, said, Says, Tries}
 use Rattle.interpreter.specs.Looks.{CheckSaid, claim_texts, message_texts, HiddenSaid, ModelSaid}
 use Rattle.interpreter.specs.Turns.{Turn, turned, wrong, open_turn, offer_turn, play_turn, record_turn, Turns}
 use Rattle.interpreter.specs.Tables.{accepted, take_of, hex_size, file_size, TableLoads}
-use Rattle.interpreter.specs.Desk.{command_in, with_length, with_record, taken, Kept, TurnedTo, TakenTo, Meant, CommandMeant, LineMeant, FoundMeant, Answers, AnswersOr}
+use Rattle.interpreter.specs.Desk.{command_in, with_length, with_record, taken, Kept, TurnedTo, TakenTo, Meant, LineMeant, FoundMeant, Answers, AnswersOr}
 use Rattle.interpreter.specs.declared.desk.Desk.{Desk}
 use Rattle.interpreter.specs.declared.desk.Answered.{Answered}
 use Rattle.interpreter.specs.declared.records.Turned.{Turned}
@@ -107,6 +107,11 @@ module _ (desk : Desk) (room after : List ℕ) where
   take_fails : (held : List ℕ) (h : Result ℕ Fault) (f : Fault) → Err f ≡ h → TakenTo (take_of desk.table h) held desk (error_texts f) desk held
   take_fails held h f e = rw (← e) (record { texts = refl; table_turns = refl; table_holds = refl })
 
+-- what a `?` hands on is the fault
+pub at_fault : (M : Texts → Desk → List ℕ → Type 0) (desk : Desk) (room held after : List ℕ) (x : Result Answered Fault) (f : Fault) → IsErrAnd x (λ e. e ≡ f) → M (error_texts f) desk held × (after ≡ room) → AnswersOr M desk room x held after
+at_fault M desk room held after (Ok r) f e m = absurd e
+at_fault M desk room held after (Err g) f e m = rw e m
+
 -- ---- the commands
 
 module _ (line table : List ℕ) (desk : Desk) (room after : List ℕ) (c : Command) where
@@ -143,7 +148,7 @@ module _ (line table : List ℕ) (desk : Desk) (room after : List ℕ) (c : Comm
     fails_offer e s = rw (e, ← eo) (turn_fails table desk room after (offer_turn line (judge on) desk.session) f s)
 
 module _ (line table : List ℕ) (desk : Desk) (room after : List ℕ) (r : Answered) (c : Command) where
-  pub answers_record : c ≡ C.Record → (m : Turned) → r ≡ with_record desk m → (m, after) ≡ turned (record_turn line desk.session) room → Answers (Meant line c table desk) room r table after
+  pub answers_record : c ≡ C.Record → (m : Turned) → r ≡ with_record desk m → Turns (record_turn line desk.session) desk.session room (Ok m) after → Answers (Meant line c table desk) room r table after
   answers_record e m er s = rw e (turns_to table desk room after r (record_turn line desk.session) m er s)
 
   pub answers_help : c ≡ C.Help → (n : ℕ) → r ≡ with_length desk n → (n, after) ≡ puts help_texts (0, room) → Answers (Meant line c table desk) room r table after
@@ -156,20 +161,20 @@ module _ (line table : List ℕ) (desk : Desk) (room after : List ℕ) (r : Answ
     pub answers_claim : c ≡ C.Claim → (n : ℕ) → r ≡ with_length desk n → (n, after) ≡ said (claim_texts (claim (judge on))) room → Answers (Meant line c table desk) room r table after
     answers_claim e n er s = rw (e, ← eo) (kept_said table desk room after r (claim_texts (claim (judge on))) n er s)
 
-    pub answers_message : c ≡ C.Message → (n : ℕ) → r ≡ with_length desk n → Says (λ t. t ≡ message_texts line (judge on) desk.session) room (n, after) → Answers (Meant line c table desk) room r table after
+    pub answers_message : c ≡ C.Message → (n : ℕ) → r ≡ with_length desk n → Tries (λ t. t ≡ message_texts line (judge on) desk.session) room (Ok n) after → Answers (Meant line c table desk) room r table after
     answers_message e n er s = rw (e, ← eo) (kept_says table desk room after r (λ t. t ≡ message_texts line (judge on) desk.session) n er s)
 
-    pub answers_hidden : c ≡ C.Hidden → (n : ℕ) → r ≡ with_length desk n → Says (HiddenSaid line (judge on)) room (n, after) → Answers (Meant line c table desk) room r table after
+    pub answers_hidden : c ≡ C.Hidden → (n : ℕ) → r ≡ with_length desk n → Tries (HiddenSaid line (judge on)) room (Ok n) after → Answers (Meant line c table desk) room r table after
     answers_hidden e n er s = rw (e, ← eo) (kept_says table desk room after r (HiddenSaid line (judge on)) n er s)
 
-    pub answers_model : c ≡ C.Model → (n : ℕ) → r ≡ with_length desk n → Says (ModelSaid line (judge on)) room (n, after) → Answers (Meant line c table desk) room r table after
+    pub answers_model : c ≡ C.Model → (n : ℕ) → r ≡ with_length desk n → Tries (ModelSaid line (judge on)) room (Ok n) after → Answers (Meant line c table desk) room r table after
     answers_model e n er s = rw (e, ← eo) (kept_says table desk room after r (ModelSaid line (judge on)) n er s)
 
     module _ (m : Turned) (er : r ≡ with_record desk m) where
       pub answers_open : c ≡ C.Open → (m, after) ≡ turned (open_turn (judge on)) room → Answers (Meant line c table desk) room r table after
       answers_open e s = rw (e, ← eo) (turns_to table desk room after r (open_turn (judge on)) m er s)
 
-      pub answers_offer : c ≡ C.Offer → (m, after) ≡ turned (offer_turn line (judge on) desk.session) room → Answers (Meant line c table desk) room r table after
+      pub answers_offer : c ≡ C.Offer → Turns (offer_turn line (judge on) desk.session) desk.session room (Ok m) after → Answers (Meant line c table desk) room r table after
       answers_offer e s = rw (e, ← eo) (turns_to table desk room after r (offer_turn line (judge on) desk.session) m er s)
 
       pub answers_play : c ≡ C.Play → (m, after) ≡ turned (play_turn (judge on) desk.session) room → Answers (Meant line c table desk) room r table after
@@ -189,7 +194,7 @@ module _ (line table : List ℕ) (desk : Desk) (room : List ℕ) where
   line_right c e x held after a = rw (← e) a
 
 -- the fault is told
-pub fault_told : (M : Texts → Desk → List ℕ → Type 0) (desk : Desk) (room held now after : List ℕ) (f : Fault) → M (error_texts f) desk held × (now ≡ room) → (n : ℕ) (r : Answered) → r ≡ with_length desk n → (n, after) ≡ puts (error_texts f) (0, now)
+pub fault_told : (M : Texts → Desk → List ℕ → Type 0) (desk : Desk) (room held now after : List ℕ) (f : Fault) → AnswersOr M desk room (Err f) held now → (n : ℕ) (r : Answered) → r ≡ with_length desk n → (n, after) ≡ puts (error_texts f) (0, now)
     → Answers M room r held after
 fault_told M desk room held now after f m n r er s = rw er (record { texts = error_texts f; meant = m.0; puts = says room (n, after) (error_texts f) (rw m.1 at s) })
 

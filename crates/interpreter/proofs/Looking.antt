@@ -1,15 +1,14 @@
 -- Laws of the commands that change nothing: one for each return.
-use Prim.Native.Nat.{ℕ, zero, suc, ◌+◌, ◌-◌, ◌≤◌, ◌<◌}
+use Prim.Native.Nat.{ℕ, zero, suc, ◌+◌, ◌≤◌, ◌<◌}
 use native.Mathlib.Omega.{arith}
-use mathlib.Core.Path.{◌≡◌, refl, sym, ap, ◌∙◌}
+use mathlib.Core.Path.{◌≡◌, refl, ap, ◌∙◌}
 use mathlib.Core.Bool.{Bool, true, false}
 use Rattle.std.specs.Prelude.{Option, Ok, MatchOption, unwrap_or}
 use Rattle.std.specs.List.{AllWithin, HoldsAt}
 use Rattle.std.proofs.lemmas.Iterator.{index_from_first}
 use mathlib.Core.List.{List, [], ◌∷◌}
 use lib.Dec.{ltb}
-use lib.ListN.{length, get_or, take, drop, replicate, drop_of_length-le}
-use lib.Seq.{take_all, drop-cons}
+use lib.ListN.{length, take, replicate}
 use borrow.Author.Tests.{lt-ltb, le-ltb}
 use Rattle.refusals.specs.declared.Refusal.{Refusal}
 use Rattle.gdl.specs.Flags.{blank}
@@ -21,7 +20,6 @@ use Rattle.calls.specs.declared.Looked.{Looked}
 use Rattle.calls.specs.Calls.{claim, message}
 use Rattle.calls.specs.Promises.{CheckPromise, HiddenPromise, ModelPromise}
 use Rattle.commands.specs.Texts.{puts}
-use Rattle.commands.specs.Faults.{error_texts}
 use Rattle.commands.specs.Numbers.{word_at, number_at, room_at}
 use Rattle.commands.specs.Placing.{placed}
 use Rattle.commands.specs.Replies.{refusal_texts, more_texts, bytes_texts}
@@ -57,9 +55,6 @@ some_of b zero m h = refl
 some_of b (suc n) zero h = absurd (omega arith)
 some_of b (suc n) (suc m) h = ap (λ (l : List ℕ). b ∷ l) (some_of b n m (omega arith))
 
-lent_part : (b many : ℕ) (lent : List ℕ) → many < 65536 → lent ≡ replicate 65535 b → take (many - 0) lent ≡ replicate many b
-lent_part b many lent h e = let k : many - 0 ≡ many = omega arith in rw (k, e) (some_of b many 65535 (omega arith))
-
 -- ---- check and claim
 
 module _ (room : List ℕ) (x : ℕ × List ℕ) where
@@ -67,9 +62,9 @@ module _ (room : List ℕ) (x : ℕ × List ℕ) where
   says_check table r p e = record { texts = refusal_texts r; meant = record { given = r; promised = p; tells = refl }; puts = says room x (refusal_texts r) e }
 
   pub says_claim : (v : Verdict) (c : Claimed) → c ≡ claim v → (a : ℕ) (after : List ℕ) → (a, after) ≡ puts (refusal_texts c.refusal) (0, room)
-      → x ≡ puts (more_texts c.claim) (a, after) → x ≡ said (claim_texts (claim v)) room
+      → (n : ℕ) → n ≡ c.claim → x ≡ puts (more_texts n) (a, after) → x ≡ said (claim_texts (claim v)) room
   unfolding claim_texts
-  says_claim v c e a after f g = rw (← e) (says_two room x (refusal_texts c.refusal) (more_texts c.claim) a after f g)
+  says_claim v c e a after f n k g = rw (← e) (says_two room x (refusal_texts c.refusal) (more_texts c.claim) a after f (rw k at g))
 
   -- ---- message
 
@@ -83,12 +78,12 @@ module _ (room : List ℕ) (x : ℕ × List ℕ) where
   -- ---- hidden and model
 
   pub says_looked : (v : Verdict) (asking moving m : ℕ) (l : Looked) → HiddenPromise v asking moving m l → (a : ℕ) (after : List ℕ)
-      → (a, after) ≡ puts (refusal_texts l.refusal) (0, room) → x ≡ puts (more_texts l.hidden) (a, after) → Says (HiddenTold v asking moving m) room x
+      → (a, after) ≡ puts (refusal_texts l.refusal) (0, room) → (n : ℕ) → n ≡ l.hidden → x ≡ puts (more_texts n) (a, after) → Says (HiddenTold v asking moving m) room x
   unfolding looked_texts
-  says_looked v asking moving m l p a after f g = record {
+  says_looked v asking moving m l p a after f n k g = record {
     texts = looked_texts l;
     meant = record { given = l; promised = p; tells = refl };
-    puts = says_two room x (refusal_texts l.refusal) (more_texts l.hidden) a after f g;
+    puts = says_two room x (refusal_texts l.refusal) (more_texts l.hidden) a after f (rw k at g);
   }
 
   pub says_model : (v : Verdict) (pos ch lent₀ lent : List ℕ) (r : Refusal) → ModelPromise v pos ch lent₀ (r, lent) → (a : ℕ) (after : List ℕ)
@@ -101,13 +96,13 @@ module _ (room : List ℕ) (x : ℕ × List ℕ) where
     puts = let e : bytes ≡ flags_in lent = k ∙ rw l (flags_first lent) in rw (← e) (says_two room x (refusal_texts r) (bytes_texts bytes) a after f g);
   }
 
-module _ (room : List ℕ) (x : ℕ × List ℕ) (v : Verdict) (many : ℕ) (small : many < 65536) (lent : List ℕ) where
-  pub lends_message : lent ≡ blank 65535 → (σ : Session) (z : ℕ) → x ≡ said (sent_texts (message v σ z (take (many - 0) lent))) room
+module _ (room : List ℕ) (x : ℕ × List ℕ) (v : Verdict) (many end : ℕ) (small : many < 65536) (e : end ≡ many) where
+  pub lends_message : (σ : Session) (z : ℕ) → x ≡ said (sent_texts (message v σ z (take end (blank 65535)))) room
       → x ≡ said (sent_texts (message v σ z (blank many))) room
-  lends_message e σ z f = rw (lent_part 0 many lent small e) at f
+  lends_message σ z f = rw (e, some_of 0 many 65535 (omega arith)) at f
 
-  pub lends_model : lent ≡ no_flags 65535 → (pos ch : List ℕ) → Says (ModelTold v pos ch (take (many - 0) lent)) room x → Says (ModelTold v pos ch (no_flags many)) room x
-  lends_model e pos ch f = rw (lent_part 255 many lent small e) at f
+  pub lends_model : (pos ch : List ℕ) → Says (ModelTold v pos ch (take end (no_flags 65535))) room x → Says (ModelTold v pos ch (no_flags many)) room x
+  lends_model pos ch f = rw (e, some_of 255 many 65535 (omega arith)) at f
 
 -- ---- the words of a line
 

@@ -119,22 +119,13 @@ fn answer_command<F: Files>(
             desk,
             records::offer(line, first_bytes(table, size), session, room)?,
         )),
-        Command::Play => Ok(turned(
-            desk,
-            records::play(first_bytes(table, size), session, room),
-        )),
+        Command::Play => Ok(turned(desk, records::play(first_bytes(table, size), session, room))),
         Command::Message => Ok(said(
             desk,
             looks::message(line, first_bytes(table, size), session, room)?,
         )),
-        Command::Hidden => Ok(said(
-            desk,
-            looks::hidden(line, first_bytes(table, size), room)?,
-        )),
-        Command::Model => Ok(said(
-            desk,
-            looks::model(line, first_bytes(table, size), room)?,
-        )),
+        Command::Hidden => Ok(said(desk, looks::hidden(line, first_bytes(table, size), room)?)),
+        Command::Model => Ok(said(desk, looks::model(line, first_bytes(table, size), room)?)),
         Command::Record => Ok(turned(desk, records::record(line, session, room)?)),
         Command::Help => Ok(said(desk, put_help(room))),
     }

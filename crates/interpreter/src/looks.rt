@@ -57,12 +57,7 @@ fn lend_message(table: &[u8], session: Session, seat: Seat, many: u16, room: &mu
 }
 
 #[tactic(auto, using(crate::proofs::Looking::lookings), unfolding(crate::specs::Looks::message_texts))]
-pub fn message(
-    line: &[u8],
-    table: &[u8],
-    session: Session,
-    room: &mut [u8],
-) -> Result<usize, Fault>
+pub fn message(line: &[u8], table: &[u8], session: Session, room: &mut [u8]) -> Result<usize, Fault>
     ensures { Tries (λ t. t ≡ message_texts line.now (judge table.now) session) room.old result room.new }
 {
     let seat = number_at(line, 1)?;
@@ -86,13 +81,7 @@ pub fn hidden(line: &[u8], table: &[u8], room: &mut [u8]) -> Result<usize, Fault
     let asking = number_at(line, 1)?;
     let moving = number_at(line, 2)?;
     let choice = number_at(line, 3)?;
-    Ok(put_hidden(
-        table,
-        Seat(asking),
-        Seat(moving),
-        Move(choice),
-        room,
-    ))
+    Ok(put_hidden(table, Seat(asking), Seat(moving), Move(choice), room))
 }
 
 // How many flags the model call has written: the places before the first that it left.

@@ -39,12 +39,7 @@ pub fn open(table: &[u8], room: &mut [u8]) -> Turned
 }
 
 #[tactic(auto, using(crate::proofs::Turning::turnings), unfolding(crate::specs::Turns::offer_turn))]
-pub fn offer(
-    line: &[u8],
-    table: &[u8],
-    session: Session,
-    room: &mut [u8],
-) -> Result<Turned, Fault>
+pub fn offer(line: &[u8], table: &[u8], session: Session, room: &mut [u8]) -> Result<Turned, Fault>
     ensures { Turns (offer_turn line.now (judge table.now) session) session room.old result room.new }
 {
     let seat = number_at(line, 1)?;

@@ -81,18 +81,6 @@ pub ruleset glyphs = (glyph_09, glyph_af)
 
 -- ---- which words are hex
 
-pub not_one : (w : List ℕ) → (length w ≡ 1 → ⊥) → false ≡ is_dash w
-not_one [] h = refl
-not_one (b ∷ []) h = absurd (h refl)
-not_one (b ∷ c ∷ w) h = refl
-
-pub one_byte : (w : List ℕ) (t : Bool) → length w ≡ 1 → t ≡ eqb (get_or w 0 0) 45 → t ≡ is_dash w
-one_byte [] t h e = absurd (omega arith)
-one_byte (b ∷ []) t h e = e
-one_byte (b ∷ c ∷ w) t h e = absurd (omega arith)
-
-pub ruleset dashes = (not_one, one_byte)
-
 pairs_of_none : (w : List ℕ) → length w ≡ 0 → is_pairs w ≡ false
 pairs_of_none [] h = refl
 pairs_of_none (b ∷ w) h = absurd (omega arith)

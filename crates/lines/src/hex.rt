@@ -14,7 +14,8 @@ pub enum HexFault {
     TooMany,
 }
 
-// What a digit counts, of either case; 16 for a byte that is no digit.
+// What a digit counts, of either case; 16 for a byte that is no digit. No Option: every byte is tested before the first is read, and each
+// would be unwrapped there.
 #[tactic(auto, using(crate::proofs::Pairing::nibbles))]
 fn nibble(b: u8) -> u8
     ensures { result ≡ nibble b }
