@@ -1,16 +1,15 @@
 -- Laws of the loops that test a shape.
-use mathlib.Core.Path.{◌≡◌, refl, sym, ap, ap₂, subst, ◌∙◌}
-use mathlib.Core.Bool.{Bool, true, false, not, ◌&&◌}
+use mathlib.Core.Path.{◌≡◌, refl, sym, ap, subst, ◌∙◌}
+use mathlib.Core.Bool.{Bool, true, false, ◌&&◌}
 use mathlib.Core.List.{List, [], ◌∷◌}
-use Prim.Native.Nat.{ℕ, zero, suc, ◌+◌, ◌-◌, ◌/◌, ◌%◌, ◌≤◌, ◌<◌}
+use Prim.Native.Nat.{ℕ, zero, suc, ◌+◌, ◌-◌, ◌≤◌, ◌<◌}
 use native.Mathlib.Omega.{arith}
 use native.Mathlib.Numerals.{add-one}
-use lib.Dec.{eqb, leb, ltb}
+use lib.Dec.{eqb, leb}
 use lib.ListN.{length, get_or, take, drop, length-drop}
-use lib.Seq.{drop-cons, drop-length, length-take-le, get_or-take, get_or-drop}
-use borrow.Author.Count.{below_more}
-use native.Mathlib.Decide.{ℕ_discrete, dec_lt}
-use borrow.Author.Tests.{le-leb, lt-leb, lt-ltb, le-ltb, eq-eqb, ne_eqb, not-true, not-false}
+use lib.Seq.{drop-cons, length-take-le, get_or-take, get_or-drop}
+use native.Mathlib.Decide.{ℕ_discrete}
+use borrow.Author.Tests.{le-leb, eq-eqb, ne_eqb}
 use Rattle.gdl.specs.Game.{Game}
 use Rattle.gdl.specs.Flags.{bit}
 use Rattle.gdl.specs.Lists.{every_from, every}
@@ -27,39 +26,19 @@ pub record Testing (f : ℕ → ℕ → Bool) (l : List ℕ) (k : ℕ) : Type 0 
   pub left : every f l ≡ every_from f k (drop k l)
 
 module _ (f : ℕ → ℕ → Bool) (l : List ℕ) where
-  pub testing_starts : Testing f l 0
-  testing_starts = record { within = omega arith; left = refl }
+  -- one more, and several at once
+  goes : (k : ℕ) → Testing f l k → k < length l → f k (get_or l k 0) ≡ true → Testing f l (k + 1)
+  goes k i h e = record { within = omega arith; left = i.left ∙ rw (drop-cons l k 0 h, e, add-one k) }
 
-  module _ (k : ℕ) (i : Testing f l k) where
-    step : k < length l → every f l ≡ (f k (get_or l k 0) && every_from f (suc k) (drop (suc k) l))
-    step h = i.left ∙ rw (drop-cons l k 0 h) refl
-
-    module _ (h : k < length l) (r : Bool) (e : r ≡ f k (get_or l k 0)) where
-      pub testing_stops : not r ≡ true → false ≡ every f l
-      testing_stops n = rw (step h, ← e, not-true r n)
-
-      pub testing_goes : not r ≡ false → Testing f l (k + 1)
-      testing_goes n = record { within = omega arith; left = rw (add-one k, step h, ← e, not-false r n) }
-
-    pub testing_ends : length l ≤ k → true ≡ every f l
-    testing_ends h = let e : k ≡ length l = omega (arith, i.within) in rw (i.left, e, drop-length l)
-
-  -- several at once
   jump : (k : ℕ) → Testing f l k → (n : ℕ) → k + n ≤ length l → ((j : ℕ) → k ≤ j → j < k + n → f j (get_or l j 0) ≡ true) → Testing f l (k + n)
   jump k i zero le p = let e : k ≡ k + 0 = omega arith in subst (Testing f l) e i
   jump k i (suc n) le p =
       let t : Testing f l (k + n) = jump k i n (omega arith) (λ j ge lt. p j ge (omega arith)) in
       let e : k + n + 1 ≡ k + suc n = omega arith in
-      subst (Testing f l) e (testing_goes (k + n) t (omega arith) (f (k + n) (get_or l (k + n) 0)) refl (ap not (p (k + n) (omega arith) (omega arith))))
+      subst (Testing f l) e (goes (k + n) t (omega arith) (p (k + n) (omega arith) (omega arith)))
 
-  module _ (k : ℕ) (i : Testing f l k) (n : ℕ) (w : Fitting f l k n) where
-    pub testing_jumps : Testing f l (k + n)
-    testing_jumps = jump k i n w.within w.pass
-
-    pub testing_stuck : k < length l → n ≡ 0 → false ≡ every f l
-    testing_stuck h e = testing_stops k i h (f k (get_or l k 0)) refl (ap not (w.stuck e))
-
-pub ruleset testings = (testing_starts, testing_stops, testing_goes, testing_jumps, testing_stuck, testing_ends)
+  pub testing_jumps : (k : ℕ) → Testing f l k → (n : ℕ) → Fitting f l k n → Testing f l (k + n)
+  testing_jumps k i n w = jump k i n w.within w.pass
 
 -- the same test over the elements with their places
 pub every_listed : (f : ℕ → ℕ → Bool) (i : ℕ) (l : List ℕ) → list_all (λ (p : ℕ × ℕ). f p.0 p.1) (enumerate_from i l) ≡ every_from f i l
@@ -68,50 +47,11 @@ every_listed f i (x ∷ l) = ap (λ (b : Bool). f i x && b) (rw (← add-one i) 
 
 -- ---- one element
 
-module _ (i width rows columns : ℕ) where
-  pub row_in : i / width < rows → ltb (i % width) columns ≡ in_grid width rows columns i
-  row_in h = rw (lt-ltb (i / width) rows h)
-
-  pub row_out : rows ≤ i / width → false ≡ in_grid width rows columns i
-  row_out h = rw (le-ltb (i / width) rows h)
-
 module _ (x : ℕ) where
-  none : eqb x 0 ≡ leb x 0
-  none = elim (dec_lt 0 x) [
-    | yes h ↦ ne_eqb x 0 (λ e. omega arith) ∙ sym (lt-leb x 0 h)
-    | no h ↦ eq-eqb x 0 (omega arith) ∙ sym (le-leb x 0 (omega arith))
-  ]
-
   pub unset : (i width rows columns : ℕ) → x ≡ 0 → true ≡ flag_fits (in_grid width rows columns) i x
   unset i width rows columns h = rw (h, le-leb 0 (bit (in_grid width rows columns i)) (omega arith))
 
-  module _ (i width rows columns : ℕ) (may : Bool) (e : may ≡ in_grid width rows columns i) where
-    pub may_be : may ≡ true → leb x 1 ≡ flag_fits (in_grid width rows columns) i x
-    may_be h = rw (← e, h)
-
-    pub may_not : (x ≡ 0 → ⊥) → may ≡ false → false ≡ flag_fits (in_grid width rows columns) i x
-    may_not n h = rw (← e, h, ← none, ne_eqb x 0 n)
-
-  pub seat_in : (seats moves s : ℕ) → s < seats → leb x moves ≡ choice_within seats moves s x
-  seat_in seats moves s h = rw (lt-ltb s seats h)
-
-  pub seat_out : (seats moves s : ℕ) → seats ≤ s → eqb x 0 ≡ choice_within seats moves s x
-  seat_out seats moves s h = rw (le-ltb s seats h) none
-
 -- ---- a run of flags, or one
-
-module _ (l : List ℕ) where
-  pub bounds_start : (top : ℕ) → Bounds l 0 top
-  bounds_start top = record { below = λ j lt. absurd (omega arith) }
-
-  module _ (k top : ℕ) (b : Bounds l k top) where
-    pub bounds_more : (r : ℕ) → (top ≤ r) × (get_or l k 0 ≤ r) → Bounds l (k + 1) r
-    bounds_more r (x, y) = record { below = below_more (λ (j : ℕ). get_or l j 0 ≤ r) k (λ j lt. omega (arith, b.below j lt)) y }
-
-    pub bounds_all : length l ≤ k → Bounds l (length l) top
-    bounds_all le = record { below = λ j lt. b.below j (omega arith) }
-
-pub ruleset bounding = (bounds_start, bounds_more, bounds_all)
 
 module _ (l : List ℕ) (i : ℕ) where
   pub run_by : i < length l → 64 ≤ length l - i → (h : ℕ) → Bounds (take (i + 64 - i) (drop i l)) (length (take (i + 64 - i) (drop i l))) h → RunIf l i (eqb h 0)
@@ -151,23 +91,6 @@ module _ (l : List ℕ) (i : ℕ) where
       fits_none t = record { within = omega arith; pass = λ j ge le. absurd (omega arith); stuck = λ _. sym e ∙ t }
 
 pub ruleset runs = (run_by, fits_run, fits_one, fits_none)
-
-pub ruleset elements = (row_in, row_out, unset, may_be, may_not, seat_in, seat_out)
-
--- ---- a position is one row
-
-one_row : (F : ℕ) → F < 65536 → (i : ℕ) → in_grid 65536 1 F i ≡ ltb i F
-one_row F h i = elim (dec_lt i 65536) [
-  | yes l ↦ let d : i / 65536 < 1 = omega arith in let e : i % 65536 ≡ i = omega arith in rw (lt-ltb (i / 65536) 1 d, e)
-  | no g ↦ let d : 1 ≤ i / 65536 = omega arith in rw (le-ltb (i / 65536) 1 d) (sym (le-ltb i F (omega arith)))
-]
-
-every_same : (f g : ℕ → ℕ → Bool) → ((k x : ℕ) → f k x ≡ g k x) → (i : ℕ) (l : List ℕ) → every_from f i l ≡ every_from g i l
-every_same f g e i [] = refl
-every_same f g e i (x ∷ l) = ap₂ (λ (a b : Bool). a && b) (e i x) (every_same f g e (suc i) l)
-
-pub row_position : (F : ℕ) (l : List ℕ) (r : Bool) → F < 65536 → r ≡ every (flag_fits (in_grid 65536 1 F)) l → r ≡ every (flag_fits (below F)) l
-row_position F l r h e = e ∙ every_same (flag_fits (in_grid 65536 1 F)) (flag_fits (below F)) (λ k x. ap (λ (b : Bool). leb x (bit b)) (one_row F h k)) 0 l
 
 -- ---- the whole record
 

@@ -4,7 +4,7 @@ use mathlib.Core.List.{List, [], ◌∷◌, append-nil}
 use Prim.Native.Nat.{ℕ, zero, suc, ◌+◌, ◌-◌, ◌*◌, ◌≤◌, ◌<◌}
 use native.Mathlib.Omega.{arith}
 use native.Mathlib.Numerals.{add-one}
-use lib.ListN.{length, get_or, set, take, drop, length-set, length-replicate}
+use lib.ListN.{length, get_or, set, take, drop, length-set}
 use lib.Seq.{sets, sets-eq, drop-cons, drop-length, drop-drop}
 use Rattle.gdl.specs.Flags.{blank}
 use Rattle.session.specs.declared.Session.{Session}
@@ -74,9 +74,6 @@ module _ (bytes : List ℕ) (at : ℕ) (choices : List ℕ) where
 pub ruleset choosings = (choosing_starts, choosing_goes, choosing_ends)
 
 -- ---- the whole record
-
-refilled : (l vs out : List ℕ) (n : ℕ) → l ≡ blank n → length vs ≡ n → out ≡ sets l 0 vs → out ≡ vs
-refilled l vs out n e size f = f ∙ filled l vs (size ∙ sym (rw e (simp length-replicate)))
 
 pub all_out : (bytes p c s : List ℕ) (r : ℕ) → length bytes ≡ 2580 → p ≡ take 512 bytes → c ≡ from_pairs 8 (drop 512 bytes)
     → s ≡ take 2048 (drop 528 bytes)

@@ -21,9 +21,6 @@ stored room at k bytes e le = rw (sets-eq bytes room at (omega arith), drop-drop
 
 -- ---- numbers as bytes
 
-pub two_bytes : (x : ℕ) → to_le_bytes w16 x ≡ little_endian 2 x
-two_bytes x = refl
-
 pub four_bytes : (x : ℕ) → to_le_bytes w32 x ≡ little_endian 4 x
 four_bytes x =
     let third : x / 65536 % 256 ≡ x / 256 / 256 % 256 = omega arith in

@@ -36,7 +36,7 @@ use Rattle.reach.proofs.Determined.{reached_is}
 use Rattle.truth.specs.Promise.{Modelled}
 use Rattle.truth.proofs.Modelled.{modelled_any}
 use Rattle.verdict.specs.Laid.{Laid, AtomsUsed, ClausesUsed}
-use Rattle.verdict.specs.Consulted.{found, Accepts, examined}
+use Rattle.verdict.specs.Consulted.{found, Accepts}
 use Rattle.verdict.specs.Weighed.{Fits}
 use Rattle.verdict.specs.declared.Weighed.{Weighed}
 use Rattle.verdict.proofs.Laying.{held_judge, held_model, held_trace}
@@ -154,6 +154,3 @@ module _ (s : List ℕ) {w : Weighed} {a : Arrays} {levels : List ℕ} (f : Fits
     pub fit_traced : (z : ℕ) (X : List ℕ) → ((G : Game) → R.Laid G x y → Reached G z X)
         → Accepts (judge s) (λ G. reach_of G z) (found (record { header = w.read.header; atoms = a.atoms; flags = X }))
     fit_traced z X m = accepts (λ G. reach_of G z) X (reached_is (accepted s f.game f.verdict).valid (m f.game (held_trace f.laid ux uy)) f.laid.limits.atoms)
-
-  pub fit_examined : Ok w.read.header ≡ examined (judge s)
-  fit_examined = rw (f.verdict, f.laid.header_is)

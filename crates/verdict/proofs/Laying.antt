@@ -6,7 +6,7 @@ use Prim.Native.Nat.{ℕ, suc, ◌+◌, ◌≤◌, ◌<◌}
 use native.Mathlib.Omega.{arith}
 use native.Mathlib.Nat.{add-zero}
 use lib.ListN.{length, get_or, take, drop, length-map, length-append, length-replicate}
-use lib.Seq.{sets, sets-eq, length-sets, take-append_seam, get_or-take}
+use lib.Seq.{sets, sets-eq, take-append_seam, get_or-take}
 use Rattle.gdl.specs.Game.{Atom, Clause, Game}
 use Rattle.gdl.specs.Flags.{blank}
 use Rattle.gdl.specs.Layout.{code_of, kinds_of, firsts_of, seconds_of, heads_of, starts_from, literals_of, owners_of, Small}
@@ -26,9 +26,6 @@ use Rattle.verdict.specs.Laid.{Laid, AtomsUsed, ClausesUsed}
 -- the part in use of a room
 pub part_used : (n : ℕ) (xs : List ℕ) → length xs ≤ n → take (length xs) (sets (blank n) 0 xs) ≡ xs
 part_used n xs h = rw (sets-eq xs (blank n) 0 (omega (arith, length-replicate {A = ℕ} n 0))) (take-append_seam xs (drop (0 + length xs) (blank n)))
-
-pub room_long : (n : ℕ) (xs : List ℕ) → length (sets (blank n) 0 xs) ≡ n
-room_long n xs = length-sets (blank n) 0 xs ∙ length-replicate {A = ℕ} n 0
 
 -- the last place of the starts is the number of literals
 last_start : (i : ℕ) (C : List Clause) → get_or (starts_from i C) (length C) 0 ≡ i + length (literals_of C)
