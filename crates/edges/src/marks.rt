@@ -7,7 +7,6 @@ use super::Edges;
 use super::worklist::Worklist;
 
 // Marks the starts of the edges that end at the node in place `at` of the queue: one turn for each of these edges.
-#[tactic(auto, using(crate::proofs::Visiting::visitings))]
 fn visit(edges: &Edges, work: &mut Worklist, at: usize)
     requires { Turn (Back edges.now.from.now edges.now.to.now) work.old at }
     ensures { Visited (Back edges.now.from.now edges.now.to.now) work.old at work.new }
@@ -23,7 +22,6 @@ fn visit(edges: &Edges, work: &mut Worklist, at: usize)
 
 // Marks, with the marked nodes, which stand below `size`, every node that depends on one. A node is queued when it is marked first: at most 1,024 turns,
 // and each edge is followed in at most one of them.
-#[tactic(auto, using(crate::proofs::Closing::closings))]
 pub fn close_back(edges: &Edges, marks: &mut [u8; 1024], size: usize)
     requires { Seeded marks.old size }
     ensures { ClosedBack edges.now.from.now edges.now.to.now marks.old marks.new }

@@ -26,7 +26,6 @@ pub type Uses = Chains<1024, 8192>;
 
 // The edges that end at a node, into a lent index that knows none yet. Each edge is put before the uses of its end that are known already, from the
 // last edge down: one turn for each edge.
-#[tactic(auto, using(crate::proofs::Indexing::indexes))]
 pub fn index_uses(to: &[u16], uses: &mut Uses)
     requires { Unindexed to.now uses.old.first uses.old.next }
     ensures { Indexed to.now uses.new.first uses.new.next }

@@ -8,7 +8,6 @@ use edges::uses::Chains;
 use edges::worklist::Worklist;
 
 // The clauses of each head, into a lent index that knows none yet: rising, until 2,048. From the last clause down: one turn for each.
-#[tactic(auto, using(crate::proofs::Indexing::clause_indexes))]
 pub(super) fn index_heads(heads: &[u16], index: &mut Chains<1024, 2048>)
     requires { Unindexed heads.now index.old.first index.old.next }
     ensures { Indexed heads.now index.new.first index.new.next }
@@ -19,7 +18,6 @@ pub(super) fn index_heads(heads: &[u16], index: &mut Chains<1024, 2048>)
 }
 
 // Marks the atoms of the body of clause `c`, negated or not.
-#[tactic(auto, using(crate::proofs::Bringing::body_rules))]
 fn bring_body(steps: &Steps, c: usize, work: &mut Worklist)
     requires { c < length steps.now.clauses.heads.now }
     ensures { Brought (InBody steps.now.clauses c) work.old work.new }
@@ -33,7 +31,6 @@ fn bring_body(steps: &Steps, c: usize, work: &mut Worklist)
 }
 
 // Marks the atoms of the bodies of the clauses whose head is `p`: one turn for each of these clauses.
-#[tactic(auto, using(crate::proofs::Bringing::bodies_rules))]
 pub(super) fn bring_bodies(steps: &Steps, p: usize, work: &mut Worklist)
     requires { p < 1024 }
     ensures { Brought (InBodies steps.now.clauses p) work.old work.new }

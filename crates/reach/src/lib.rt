@@ -20,7 +20,6 @@ use gdl::arrays::{AtomArrays, ClauseArrays};
 use steps::Steps;
 
 // Marks what the atom in place `at` of the queue brings in.
-#[tactic(auto, using(crate::proofs::Reached::visits))]
 fn visit(steps: &Steps, work: &mut Worklist, at: usize)
     requires { Visit steps.now.atoms steps.now.clauses work.old at }
     ensures { Visited (Brings steps.now.atoms steps.now.clauses) work.old at work.new }
@@ -31,7 +30,6 @@ fn visit(steps: &Steps, work: &mut Worklist, at: usize)
 }
 
 // Marks whatever the marked atoms bring in. An atom is queued when it is marked first: at most 1,024 turns.
-#[tactic(auto, using(edges::proofs::Closing::closings, crate::proofs::Reached::follow_visit))]
 fn follow(steps: &Steps, work: &mut Worklist)
     requires { Following steps.now.atoms work.old }
     ensures { Closes (Brings steps.now.atoms steps.now.clauses) work.old.marks work.new.marks }
@@ -45,7 +43,6 @@ fn follow(steps: &Steps, work: &mut Worklist)
 
 // A flag for each atom, 1 for those of the seat's reach, for whatever game the arrays hold; 0 after the last atom. Each of at most 2,048 clauses and
 // 1,024 atoms is indexed once; the literals of a clause are visited once, if its head is reached.
-#[tactic(auto, using(crate::proofs::Reached::reaching))]
 pub fn reach_of(atoms: &AtomArrays, clauses: &ClauseArrays, seat: u16) -> [u8; 1024]
     requires { Ready atoms.now clauses.now }
     ensures { (G : Game) → Laid G atoms.now clauses.now → Reached G seat result }

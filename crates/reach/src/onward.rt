@@ -17,7 +17,6 @@ fn is_onward(kind: u16) -> bool
 
 // The next and init atoms of each fluent, into a lent index that knows none yet: rising, until 1,024. From the last atom down: one turn for each.
 // A fluent from 512 on has no true(f).
-#[tactic(auto, using(crate::proofs::Indexing::atom_indexes))]
 pub(super) fn index_onward(atoms: &AtomArrays, index: &mut Chains<512, 1024>)
     requires { Unindexed atoms.now index.old.first index.old.next }
     ensures { Indexed atoms.now index.new.first index.new.next }
@@ -31,7 +30,6 @@ pub(super) fn index_onward(atoms: &AtomArrays, index: &mut Chains<512, 1024>)
 }
 
 // Marks next(f) and init(f), where atom `p` is true(f).
-#[tactic(auto, using(crate::proofs::Bringing::onward_rules))]
 pub(super) fn bring_onward(steps: &Steps, p: usize, work: &mut Worklist)
     requires { p < length steps.now.atoms.kinds.now }
     ensures { Brought (Follows steps.now.atoms p) work.old work.new }

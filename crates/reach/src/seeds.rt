@@ -20,7 +20,6 @@ fn is_seed(kind: u16, first: u16, seat: u16) -> bool
 }
 
 // Marks and queues these atoms: one visit of each of at most 1,024 atoms.
-#[tactic(auto, using(crate::proofs::Seeding::sowings))]
 pub(super) fn sow(atoms: &AtomArrays, seat: u16, work: &mut Worklist)
     requires { Unsown atoms.now work.old }
     ensures { Sown atoms.now seat (length atoms.now.kinds.now) work.new }

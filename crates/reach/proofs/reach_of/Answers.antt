@@ -4,7 +4,7 @@ use Rattle.edges.specs.Queue.{no_marks}
 use Rattle.edges.proofs.Marking.{queue_blank}
 use Rattle.reach.specs.Bodies.{no_clauses, no_more_clauses}
 use Rattle.reach.specs.Onward.{no_atoms, no_more_atoms}
-use Rattle.reach.proofs.Reached.{reach_unsown, reach_heads, reach_atoms, reach_reached}
+use Rattle.reach.proofs.Reached.{reach_unsown, reach_heads, reach_atoms, reach_indexed, reach_reached}
 use Rattle.reach.proofs.reach_of.Goals as goal
 
 pub invariant_of-work : goal.invariant_of-work
@@ -25,3 +25,6 @@ index_onward-requires c = reach_atoms _ _ c.requires _ _ refl refl
 
 pub returns : goal.returns
 returns c = reach_reached _ _ c.requires _ _ c.sow.ensures _ c.follow.ensures
+
+pub invariant_of-steps : goal.invariant_of-steps
+invariant_of-steps c = record { indexed = reach_indexed _ _ c.requires _ _ _ _ c.index_heads.ensures c.index_onward.ensures }
