@@ -5,19 +5,13 @@ use mathlib.Core.List.{List}
 use Prim.Native.Nat.{ℕ, ◌+◌, ◌*◌, ◌-◌, ◌<◌, ◌≤◌}
 use native.Mathlib.Omega.{arith}
 use native.Mathlib.Decide.{ℕ_discrete}
-use lib.Dec.{eqb→eq}
 use lib.ListN.{get_or}
 use mir.Syntax.{w64}
 use mir.Val.{Fits}
 use Rattle.gdl.proofs.Closing.{count_length}
-use Rattle.gdl.proofs.Tests.{eq→eqb}
-use Rattle.edges.specs.Closure.{Closes}
 use Rattle.edges.specs.Queue.{Queue}
-use Rattle.edges.specs.Marks.{Waits, Joined, Brought, Done, Work, Grew, Turn, Visited, Waiting}
+use Rattle.edges.specs.Marks.{Waits, Joined, Brought, Done, Work, Grew, Turn, Visited}
 use Rattle.edges.specs.declared.worklist.Worklist.{Worklist}
-
-grew_more : {Brings : ℕ → ℕ → Type 0} {a b c : List ℕ} → Grew Brings a b → Grew Brings b c → Grew Brings a c
-grew_more g h = record { keeps = λ p e. h.keeps p (g.keeps p e); least = λ Y s f. h.least Y s (g.least Y s f) }
 
 pub queue_few : {m q : List ℕ} {n : ℕ} → Queue m q n → n ≤ 1024
 queue_few {m} w = omega (arith, w.room, w.long, count_length m)
@@ -34,9 +28,6 @@ module _ (Brings : ℕ → ℕ → Type 0) (w : Worklist) (at : ℕ) (t : Turn B
   module _ (p : ℕ) (ep : p ≡ get_or w.queue at 0) where
     pub turn_node : p < 1024
     turn_node = omega (arith, w.queued.nodes at t.waits)
-
-    pub turn_node_scaled : Fits w64 (p * 2)
-    turn_node_scaled = omega (arith, turn_node)
 
     pub turn_done : (w' : Worklist) → Brought (Brings p) w w' → Visited Brings w at w'
     turn_done w' b = record {
@@ -68,8 +59,6 @@ module _ (Brings : ℕ → ℕ → Type 0) (w : Worklist) (at : ℕ) (t : Turn B
           | no ne ↦ inr (record { j = v.j; from = omega (arith, v.from); to = omega (arith, v.to, a.more); is = a.before v.j v.to ∙ v.is })
         ]
 
-pub ruleset turns = (turn_place, turn_scaled, turn_node, turn_node_scaled, turn_done)
-
 -- ---- one turn after another
 
 -- all marks so far
@@ -77,37 +66,7 @@ pub record Closing (Brings : ℕ → ℕ → Type 0) (seeds : List ℕ) (w : Wor
   pub grew : Grew Brings seeds w.marks
   pub work : Work Brings w at
 
-pub closing_starts : (Brings : ℕ → ℕ → Type 0) (w : Worklist) → Waiting w → Closing Brings w.marks w 0
-closing_starts Brings w i = record {
-  grew = record { keeps = λ p e. e; least = λ Y b f. f };
-  work = record { each = λ p e. inr (i.waits p e); order = omega arith };
-}
-
 module _ (Brings : ℕ → ℕ → Type 0) (seeds : List ℕ) where
   module _ (w : Worklist) (at : ℕ) (i : Closing Brings seeds w at) where
-    pub closing_turn : at < w.many → Turn Brings w at
-    closing_turn lt = record { work = i.work; waits = lt }
-
     pub closing_less : at < w.many → 1024 - (at + 1) < 1024 - at
     closing_less lt = omega (arith, queue_few w.queued)
-
-    pub closing_more : (w' : Worklist) → Visited Brings w at w' → Closing Brings seeds w' (at + 1)
-    closing_more w' v = record { grew = grew_more i.grew v.grew; work = v.work }
-
-    pub closing_done : w.many ≤ at → Closes Brings seeds w.marks
-    closing_done le = record {
-      least = record {
-        holds = λ p t. eq→eqb (get_or w.marks p 0) 1 (i.grew.keeps p (eqb→eq (get_or seeds p 0) 1 t));
-        shut = record {
-          at = λ p h b t. elim (i.work.each p (eqb→eq (get_or w.marks p 0) 1 t)) [
-            | inl d ↦ eq→eqb (get_or w.marks h 0) 1 (d.at h b)
-            | inr v ↦ absurd (omega (arith, v.from, v.to))
-          ];
-        };
-        least = λ Y f s p t. i.grew.least Y s (λ j e. f j (eq→eqb (get_or seeds j 0) 1 e)) p (eqb→eq (get_or w.marks p 0) 1 t);
-      };
-      long = w.queued.long;
-      flags = w.queued.flags;
-    }
-
-pub ruleset closings = (closing_starts, closing_turn, closing_less, closing_more, closing_done)

@@ -7,7 +7,7 @@ use native.Mathlib.Nat.{not-suc-le-zero}
 use native.Mathlib.Numerals.{add-one}
 use native.Mathlib.Omega.{arith}
 use lib.Dec.{eqb}
-use lib.ListN.{length, get_or, set, take, length-set, length-take, length-replicate}
+use lib.ListN.{length, get_or, set, take, length-set, length-replicate}
 use lib.Seq.{get_or-set_same, get_or-set_other}
 use mir.Syntax.{w64}
 use mir.Val.{Fits}
@@ -16,7 +16,7 @@ use borrow.Author.Count.{below_more}
 use Rattle.gdl.specs.Flags.{bit, count}
 use Rattle.gdl.proofs.Closing.{count_length}
 use Rattle.edges.specs.Queue.{no_marks, Queue, Seeded}
-use Rattle.edges.specs.Marks.{Pushable, Pushed, Marked, Waits, Joined, Waiting, Ungathered, Gathered}
+use Rattle.edges.specs.Marks.{Pushable, Pushed, Marked, Waits, Joined, Waiting, Gathered}
 use Rattle.edges.specs.declared.worklist.Worklist.{Worklist}
 use Rattle.edges.proofs.Setting.{after_set, blank_at}
 
@@ -175,18 +175,11 @@ count_take [] p lt = absurd (not-suc-le-zero lt)
 count_take (x ∷ m) zero lt = omega arith
 count_take (x ∷ m) (suc p) lt = omega (arith, count_take m p (omega arith))
 
-take_few : (m : List ℕ) (p : ℕ) → count (take p m) ≤ p
-take_few m p = omega (arith, count_length (take p m), length-take p m)
-
 take_under : (m : List ℕ) (p : ℕ) → count (take p m) ≤ count m
 unfolding count
 take_under m zero = omega arith
 take_under [] (suc p) = omega arith
 take_under (x ∷ m) (suc p) = omega (arith, take_under m p)
-
-module _ (w : Worklist) (size : ℕ) (u : Ungathered w size) where
-  pub gather_starts : Gathered w.marks w 0
-  gather_starts = record { marks = refl; waits = λ j lt. absurd (not-suc-le-zero lt); room = omega (arith, u.empty) }
 
 module _ (m : List ℕ) (size : ℕ) (s : Seeded m size) where
   module _ (w : Worklist) (p : ℕ) (i : Gathered m w p) (lt : p < size) where
@@ -221,8 +214,3 @@ module _ (m : List ℕ) (size : ℕ) (s : Seeded m size) where
       waits = below_more (λ (j : ℕ). get_or m j 0 ≡ 1 → Waits w 0 j) p i.waits (λ f. absurd (ne (rw i.marks f)));
       room = rw (add-one p) (omega (arith, i.room, count_take m p inside));
     }
-
-  pub gathered_waits : (w : Worklist) → Gathered m w size → Waiting w
-  gathered_waits w g = record {
-    waits = λ p e. let f : get_or m p 0 ≡ 1 = rw g.marks at e in g.waits p (let no : size ≤ p → ⊥ = λ le. omega (arith, s.past p le) in omega arith) f;
-  }

@@ -1,6 +1,6 @@
 -- The turn of a node of the graph: a walk along the edges that end there.
 use mathlib.Core.Path.{◌≡◌, sym, subst}
-use Prim.Native.Nat.{ℕ, suc, ◌-◌, ◌<◌, ◌≤◌}
+use Prim.Native.Nat.{ℕ, suc, ◌<◌, ◌≤◌}
 use native.Mathlib.Omega.{arith}
 use lib.ListN.{length, get_or}
 use Rattle.edges.specs.Graph.{start_of}
@@ -9,9 +9,9 @@ use Rattle.edges.specs.Uses.{EndsAt, FirstEnd}
 use Rattle.edges.specs.Marks.{Marked, Joined, Turn, Visited}
 use Rattle.edges.specs.declared.Edges.{Edges}
 use Rattle.edges.specs.declared.worklist.Worklist.{Worklist}
-use Rattle.edges.proofs.Chains.{Walked, walk_starts, walk_less, walk_more}
-use Rattle.edges.proofs.Marking.{One, one, joined_none, joined_more}
-use Rattle.edges.proofs.Closing.{turns, turn_node, turn_done}
+use Rattle.edges.proofs.Chains.{Walked, walk_more}
+use Rattle.edges.proofs.Marking.{One, one, joined_more}
+use Rattle.edges.proofs.Closing.{turn_node, turn_done}
 
 -- the edges to p below k are followed
 pub record Visiting (e : Edges) (w₀ w : Worklist) (p k : ℕ) : Type 0 where
@@ -22,12 +22,6 @@ module _ (e : Edges) (w₀ : Worklist) (at : ℕ) (v : Turn (Back e.from.now e.t
   node : p < 1024
   node = turn_node (Back e.from.now e.to.now) w₀ at v p ep
 
-  pub visiting_starts : (k : ℕ) → k ≡ get_or e.uses.now.first p 0 → Visiting e w₀ w₀ p k
-  visiting_starts k ek = record {
-    joined = joined_none;
-    walked = walk_starts (subst (FirstEnd e.to.now p 0) (sym ek) (e.indexed.chained.firsts p node));
-  }
-
   module _ (w : Worklist) (k : ℕ) (i : Visiting e w₀ w p k) where
     module _ (lt : k < length e.to.now) where
       module _ (h : ℕ) (eh : h ≡ get_or e.from.now k 0) where
@@ -37,9 +31,6 @@ module _ (e : Edges) (w₀ : Worklist) (at : ℕ) (v : Turn (Back e.from.now e.t
         module _ (w' : Worklist) (s : Marked h w w') (k' : ℕ) (ek : k' ≡ get_or e.uses.now.next k 0) where
           later : FirstEnd e.to.now p (suc k) k'
           later = subst (FirstEnd e.to.now p (suc k)) (sym ek) (e.indexed.chained.nexts p k node (omega arith) lt (i.walked.here lt))
-
-          pub onward_less : length e.to.now - k' < length e.to.now - k
-          onward_less = walk_less later lt
 
           pub visiting_more : Visiting e w₀ w' p k'
           visiting_more =
@@ -54,5 +45,3 @@ module _ (e : Edges) (w₀ : Worklist) (at : ℕ) (v : Turn (Back e.from.now e.t
       joined = i.joined;
       all = λ h b. subst (λ (y : ℕ). get_or w.marks y 0 ≡ 1) b.start (i.walked.met b.edge (omega (arith, b.within)) b.within b.end);
     })
-
-pub ruleset visitings = (turns, visiting_starts, start_node, onward_less, visiting_done)

@@ -6,15 +6,13 @@ use native.Mathlib.Omega.{arith}
 use native.Mathlib.Decide.{ℕ_discrete}
 use lib.ListN.{length, get_or, take, drop, length-take}
 use lib.Seq.{get_or-take, get_or-drop}
-use mir.Syntax.{w64}
-use mir.Val.{Fits}
 use Rattle.gdl.specs.declared.arrays.AtomArrays.{AtomArrays}
 use Rattle.gdl.specs.declared.arrays.ClauseArrays.{ClauseArrays}
 use Rattle.edges.specs.Uses.{FirstUse}
 use Rattle.edges.specs.Marks.{Marked, Joined, Brought}
 use Rattle.edges.specs.declared.worklist.Worklist.{Worklist}
-use Rattle.edges.proofs.Chains.{Walked, walk_starts, walk_less, walk_more}
-use Rattle.edges.proofs.Marking.{One, one, joined_none, joined_more, joined_as}
+use Rattle.edges.proofs.Chains.{Walked, walk_more}
+use Rattle.edges.proofs.Marking.{One, one, joined_more}
 use Rattle.reach.specs.Bodies.{InBody, InBodies, HeadAt}
 use Rattle.reach.specs.Onward.{Onward, Follows}
 use Rattle.reach.specs.declared.steps.Steps.{Steps}
@@ -36,19 +34,7 @@ pub record BodyBrought (c : ClauseArrays) (k : ℕ) (w₀ w : Worklist) (j : ℕ
   pub met : (i : ℕ) → get_or c.starts.now k 0 ≤ i → i < j → get_or w.marks (get_or c.literals.now i 0 / 2) 0 ≡ 1
 
 module _ (s : Steps) (k : ℕ) (here : k < length s.clauses.heads.now) where
-  pub start_in : k < length s.clauses.starts.now
-  start_in = omega (arith, s.indexed.readable.clauses.long)
-
-  pub end_in : k + 1 < length s.clauses.starts.now
-  end_in = omega (arith, s.indexed.readable.clauses.long)
-
-  pub end_fits : Fits w64 (k + 1)
-  end_fits = omega (arith, s.indexed.readable.clauses.is_heads.few)
-
   module _ (w₀ : Worklist) where
-    pub body_starts : (j : ℕ) → j ≡ get_or s.clauses.starts.now k 0 → BodyBrought s.clauses k w₀ w₀ j
-    body_starts j ej = record { joined = joined_none; from = omega arith; met = λ i ge lt. absurd (omega arith) }
-
     module _ (w : Worklist) (j end : ℕ) (i : BodyBrought s.clauses k w₀ w j) (ee : end ≡ get_or s.clauses.starts.now (k + 1) 0) where
       module _ (lt : j < end) where
         pub literal_in : j < length s.clauses.literals.now
@@ -70,11 +56,6 @@ module _ (s : Steps) (k : ℕ) (here : k < length s.clauses.heads.now) where
                 ];
               }
 
-      pub body_done : end ≤ j → Brought (InBody s.clauses k) w₀ w
-      body_done le = record { joined = i.joined; all = λ h b. subst (λ (y : ℕ). get_or w.marks y 0 ≡ 1) b.is_atom (i.met b.place b.from (omega (arith, b.to))) }
-
-pub ruleset body_rules = (start_in, end_in, end_fits, body_starts, literal_in, literal_node, body_more, body_done)
-
 -- ---- the clauses of a head
 
 -- those before clause k are done
@@ -83,34 +64,9 @@ pub record BodiesBrought (c : ClauseArrays) (p : ℕ) (w₀ w : Worklist) (k : �
   pub walked : Walked (HeadAt c.heads.now) (length c.heads.now) (λ d. (h : ℕ) → InBody c d h → get_or w.marks h 0 ≡ 1) p k
 
 module _ (s : Steps) (p : ℕ) (lp : p < 1024) (w₀ : Worklist) where
-  pub bodies_start : (k : ℕ) → k ≡ get_or s.heads.now.first p 0 → BodiesBrought s.clauses p w₀ w₀ k
-  bodies_start k ek = record {
-    joined = joined_none;
-    walked = walk_starts (subst (FirstUse (HeadAt s.clauses.heads.now) (length s.clauses.heads.now) 2048 p 0) (sym ek) (s.indexed.clauses.chained.firsts p lp));
-  }
-
   module _ (w : Worklist) (k : ℕ) (i : BodiesBrought s.clauses p w₀ w k) where
-    module _ (lt : k < length s.clauses.heads.now) where
-      pub clause_node : k < 2048
-      clause_node = omega (arith, s.indexed.readable.clauses.is_heads.few)
-
-      module _ (k' : ℕ) (ek : k' ≡ get_or s.heads.now.next k 0) where
-        after : FirstUse (HeadAt s.clauses.heads.now) (length s.clauses.heads.now) 2048 p (suc k) k'
-        after = subst (FirstUse (HeadAt s.clauses.heads.now) (length s.clauses.heads.now) 2048 p (suc k)) (sym ek) (s.indexed.clauses.chained.nexts p k lp (omega arith) lt (i.walked.here lt))
-
-        pub clause_less : length s.clauses.heads.now - k' < length s.clauses.heads.now - k
-        clause_less = walk_less after lt
-
-        pub bodies_more : (w' : Worklist) → Brought (InBody s.clauses k) w w' → BodiesBrought s.clauses p w₀ w' k'
-        bodies_more w' b = record {
-          joined = joined_more i.joined (joined_as (λ h x. record { clause = k; within = lt; is_head = i.walked.here lt; in_body = x }) b.joined);
-          walked = walk_more i.walked after (λ d f h x. b.joined.keeps h (f h x)) b.all;
-        }
-
     pub bodies_done : length s.clauses.heads.now ≤ k → Brought (InBodies s.clauses p) w₀ w
     bodies_done le = record { joined = i.joined; all = λ h b. i.walked.met b.clause (omega (arith, b.within)) b.within b.is_head h b.in_body }
-
-pub ruleset bodies_rules = (bodies_start, clause_node, clause_less, bodies_more, bodies_done)
 
 -- ---- the next and init atoms of a fluent
 
@@ -120,21 +76,9 @@ pub record OnwardBrought (a : AtomArrays) (p : ℕ) (w₀ w : Worklist) (f h : �
   pub walked : Walked (Onward a) (length a.kinds.now) (λ j. get_or w.marks j 0 ≡ 1) f h
 
 module _ (s : Steps) (p : ℕ) (lp : p < length s.atoms.kinds.now) (w₀ : Worklist) where
-  pub onward_none : (get_or s.atoms.kinds.now p 0 ≡ 3 → ⊥) → Brought (Follows s.atoms p) w₀ w₀
-  onward_none ne = record { joined = joined_none; all = λ h b. absurd (ne b.is_true) }
-
-  pub first_in : p < length s.atoms.firsts.now
-  first_in = omega (arith, s.indexed.readable.lows.columns.same)
-
   module _ (t : get_or s.atoms.kinds.now p 0 ≡ 3) (f : ℕ) (ef : f ≡ get_or s.atoms.firsts.now p 0) where
     pub fluent_in : f < 512
     fluent_in = omega (arith, s.indexed.readable.lows.low p lp t)
-
-    pub onward_starts : (h : ℕ) → h ≡ get_or s.fluents.now.first f 0 → OnwardBrought s.atoms p w₀ w₀ f h
-    onward_starts h eh = record {
-      joined = joined_none;
-      walked = walk_starts (subst (FirstUse (Onward s.atoms) (length s.atoms.kinds.now) 1024 f 0) (sym eh) (s.indexed.atoms.chained.firsts f fluent_in));
-    }
 
     module _ (w : Worklist) (h : ℕ) (i : OnwardBrought s.atoms p w₀ w f h) where
       module _ (lt : h < length s.atoms.kinds.now) where
@@ -145,15 +89,7 @@ module _ (s : Steps) (p : ℕ) (lp : p < length s.atoms.kinds.now) (w₀ : Workl
           beyond : FirstUse (Onward s.atoms) (length s.atoms.kinds.now) 1024 f (suc h) h'
           beyond = subst (FirstUse (Onward s.atoms) (length s.atoms.kinds.now) 1024 f (suc h)) (sym eh) (s.indexed.atoms.chained.nexts f h fluent_in (omega arith) lt (i.walked.here lt))
 
-          pub onward_less : length s.atoms.kinds.now - h' < length s.atoms.kinds.now - h
-          onward_less = walk_less beyond lt
-
           pub onward_more : (w' : Worklist) → Marked h w w' → OnwardBrought s.atoms p w₀ w' f h'
           onward_more w' m =
               let o : One (Follows s.atoms p) h w w' = one later_in (record { is_true = t; within = lt; onward = subst (λ (x : ℕ). Onward s.atoms x h) ef (i.walked.here lt) }) m in
               record { joined = joined_more i.joined o.joined; walked = walk_more i.walked beyond o.joined.keeps o.here }
-
-      pub onward_done : length s.atoms.kinds.now ≤ h → Brought (Follows s.atoms p) w₀ w
-      onward_done le = record { joined = i.joined; all = λ j b. i.walked.met j (omega (arith, b.within)) b.within (subst (λ (x : ℕ). Onward s.atoms x j) (sym ef) b.onward) }
-
-pub ruleset onward_rules = (onward_none, first_in, fluent_in, onward_starts, later_in, onward_less, onward_more, onward_done)

@@ -2,13 +2,11 @@
 use mathlib.Core.Path.{◌≡◌, refl, sym, subst, ◌∙◌}
 use mathlib.Core.Bool.{Bool, true, false}
 use mathlib.Core.List.{List}
-use Prim.Native.Nat.{ℕ, ◌*◌, ◌-◌, ◌<◌, ◌≤◌}
+use Prim.Native.Nat.{ℕ, ◌-◌, ◌<◌}
 use native.Mathlib.Omega.{arith}
 use lib.Dec.{T}
 use lib.ListN.{length, get_or, set}
-use mir.Syntax.{w64}
-use mir.Val.{Fits}
-use Rattle.edges.proofs.Chains.{chain_starts, chain_more, chain_skip, chain_done}
+use Rattle.edges.proofs.Chains.{chain_starts, chain_more, chain_skip}
 use Rattle.gdl.specs.declared.arrays.AtomArrays.{AtomArrays}
 use Rattle.reach.specs.Seeds.{Columns}
 use Rattle.reach.specs.Bodies as B
@@ -24,21 +22,6 @@ pub clauses_start : (heads first next : List ℕ) → B.Unindexed heads first ne
 unfolding B.no_clauses B.no_more_clauses
 clauses_start heads first next u = chain_starts 1024 2048 first next u.is_heads.few u.empty_clauses u.no_more
 
-module _ (heads first next : List ℕ) (low p : ℕ) (s : B.Heads heads) (i : B.ClausesFrom heads first next low) (pos : 0 < low) (ep : p ≡ get_or heads (low - 1) 0) where
-  pub head_atom : p < 1024
-  head_atom = omega (arith, s.atoms (low - 1) (omega (arith, i.within)))
-
-  pub head_scaled : Fits w64 (p * 2)
-  head_scaled = omega (arith, head_atom)
-
-  pub clauses_more : B.ClausesFrom heads (set first p (low - 1)) (set next (low - 1) (get_or first p 0)) (low - 1)
-  clauses_more = chain_more i (low - 1) (omega arith) p head_atom (omega (arith, i.within, s.few)) (sym ep) (λ b e. sym e ∙ sym ep)
-
-pub clauses_done : (heads first next : List ℕ) (low : ℕ) → B.ClausesFrom heads first next low → low ≤ 0 → B.Indexed heads first next
-clauses_done heads first next low i le = chain_done i le
-
-pub ruleset clause_indexes = (clauses_start, head_atom, head_scaled, clauses_more, clauses_done)
-
 -- ---- atoms
 
 pub atoms_start : (a : AtomArrays) (first next : List ℕ) → O.Unindexed a first next → O.AtomsFrom a first next (length a.kinds.now)
@@ -47,20 +30,9 @@ atoms_start a first next u = chain_starts 512 1024 first next u.columns.few u.em
 
 -- one atom more, the one below `low`: it is next(f) or init(f) and f is below 512, or not
 module _ (a : AtomArrays) (first next : List ℕ) (low : ℕ) (w : Columns a) (i : O.AtomsFrom a first next low) (pos : 0 < low) where
-  pub atoms_first : low - 1 < length a.firsts.now
-  atoms_first = omega (arith, i.within, w.same)
-
-  pub atoms_place : low - 1 < 1024
-  atoms_place = omega (arith, i.within, w.few)
-
   module _ (f : ℕ) (ef : f ≡ get_or a.firsts.now (low - 1) 0) where
     pub atoms_skip : (O.is_onward (get_or a.kinds.now (low - 1) 0) ≡ true → f < 512 → ⊥) → O.AtomsFrom a first next (low - 1)
     atoms_skip none = chain_skip i (low - 1) (omega arith) (λ g lt o. none (T→true (O.is_onward (get_or a.kinds.now (low - 1) 0)) o.kind) (omega (arith, o.fluent)))
 
     pub atoms_more : O.is_onward (get_or a.kinds.now (low - 1) 0) ≡ true → f < 512 → O.AtomsFrom a (set first f (low - 1)) (set next (low - 1) (get_or first f 0)) (low - 1)
     atoms_more on lt = chain_more i (low - 1) (omega arith) f lt (omega (arith, i.within, w.few)) (record { kind = subst T (sym on) tt; fluent = sym ef }) (λ g o. sym o.fluent ∙ sym ef)
-
-pub atoms_done : (a : AtomArrays) (first next : List ℕ) (low : ℕ) → O.AtomsFrom a first next low → low ≤ 0 → O.Indexed a first next
-atoms_done a first next low i le = chain_done i le
-
-pub ruleset atom_indexes = (atoms_start, atoms_first, atoms_place, atoms_skip, atoms_more, atoms_done)

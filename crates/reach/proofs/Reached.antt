@@ -36,9 +36,6 @@ module _ (a : AtomArrays) (c : ClauseArrays) (w : Worklist) (at : ℕ) (v : Visi
   visit_place = turn_place (Brings a c) w at v.turn
 
   module _ (p : ℕ) (ep : p ≡ get_or w.queue at 0) where
-    pub visit_atom : p < length a.kinds.now
-    visit_atom = omega (arith, v.atom)
-
     module _ (w' : Worklist) (o : Brought (O.Follows a p) w w') where
       pub visit_done : (w'' : Worklist) → Brought (B.InBodies c p) w' w'' → Visited (Brings a c) w at w''
       visit_done w'' b = turn_done (Brings a c) w at v.turn p ep w'' (record {
@@ -49,8 +46,6 @@ module _ (a : AtomArrays) (c : ClauseArrays) (w : Worklist) (at : ℕ) (v : Visi
           all : (h : ℕ) → Brings a c p h → get_or w''.marks h 0 ≡ 1
           all h (by_body x) = b.all h x
           all h (by_fluent x) = b.joined.keeps h (o.all h x)
-
-pub ruleset visits = (visit_place, visit_atom, visit_done)
 
 -- ---- one turn after another
 
@@ -104,9 +99,6 @@ module _ (a : AtomArrays) (c : ClauseArrays) (r : Ready a c) where
   reach_indexed first next fluents later h o = record { readable = ready_readable a c r; clauses = h; atoms = o }
 
   module _ (seat : ℕ) (w : Worklist) (f : Sown a seat (length a.kinds.now) w) where
-    pub reach_following : Following a w
-    reach_following = record { waiting = f.waiting; after = f.after }
-
     pub reach_reached : (m : List ℕ) → Closes (Brings a c) w.marks m → (G : Game) → Laid G a c → Reached G seat m
     reach_reached m x G laid = record {
       reach = record {
@@ -130,5 +122,3 @@ module _ (a : AtomArrays) (c : ClauseArrays) (r : Ready a c) where
 
         inside : (p : ℕ) → T (on m p) → T (ltb p (length a.kinds.now))
         inside = x.least.least (λ p. ltb p (length a.kinds.now)) (λ p t. lt→ltb p (length a.kinds.now) (omega (arith, (on_seed_lem laid f p t).0, laid_long laid))) (atoms_shut (ready_readable a c r))
-
-pub ruleset reaching = (reach_unsown, reach_heads, reach_atoms, reach_indexed, reach_following)

@@ -22,9 +22,6 @@ module _ (a : AtomArrays) (seat : ℕ) where
   sow_starts w u = record { below = λ i lt. absurd (not-suc-le-zero lt); after = λ i le. rw u.unmarked (unset i); waiting = waiting_none w u.unmarked }
 
   module _ (w : Worklist) (p : ℕ) (s : Sown a seat p w) (columns : Columns a) (lt : p < length a.kinds.now) where
-    pub sow_first : p < length a.firsts.now
-    sow_first = omega (arith, columns.same)
-
     pub sow_node : p < 1024
     sow_node = omega (arith, columns.few)
 
@@ -48,5 +45,3 @@ module _ (a : AtomArrays) (seat : ℕ) where
       after = λ i le. s.after i (omega arith);
       waiting = s.waiting;
     }
-
-pub ruleset sowings = (sow_starts, sow_first, sow_node, sow_mark, sow_pass)
