@@ -1,5 +1,5 @@
 // Limits, and positions from marks.
-ghost use Rattle.std.specs.Prelude.{◌≡◌, take};
+ghost use Rattle.std.specs.Prelude.{◌≡◌, length, take};
 
 use session::shape::Limits;
 use table::header::Header;
@@ -17,7 +17,8 @@ pub fn limits_of(header: Header) -> Limits
 }
 
 // The marks of the fluents: a position.
-pub fn first_marks(marks: &[u8; 2048]) -> [u8; 512]
+pub fn first_marks(marks: &[u8]) -> [u8; 512]
+    requires { length marks.now ≡ 2048 }
     ensures { result ≡ take 512 marks.now }
 {
     let mut position = [0; 512];

@@ -14,7 +14,7 @@ use session::Session;
 use session::shape::{Limits, shaped};
 use verdict::{Learnt, marks_in};
 
-// "BadShape", then "GameOver": the limits of the table, where the record has its shape and the game goes on. Offer and play begin so.
+// 21 and 19, which offer and play begin with: the limits of the table, where neither strikes.
 pub fn going(learnt: &Learnt, session: Session) -> Result<Limits, Refusal>
     requires { Fit (found learnt.now) }
     ensures { (G : Game) (choices : List ℕ) → Accepted G → found learnt.now ≡ found_in G (model G session.position choices) → result ≡ going G session }

@@ -32,10 +32,9 @@ pub fn model_fit(
     ensures { (G : Game) → Accepted G → found learnt.now ≡ found_in G (model G position choices) → (result, room.new) ≡ truth (fit G) position choices room.old }
 {
     let limits = limits_of(learnt.header);
-    if !position_fits(&position, limits.fluents) {
-        return Refusal::BadShape;
-    }
-    if !choices_fit(&choices, limits.seats, limits.moves) {
+    if !position_fits(&position, limits.fluents)
+        || !choices_fit(&choices, limits.seats, limits.moves)
+    {
         return Refusal::BadShape;
     }
     let atoms = usize::from(learnt.header.sizes.atoms);
