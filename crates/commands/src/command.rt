@@ -25,7 +25,7 @@ fn is(word: &[u8], name: &[u8]) -> bool
     word == name
 }
 
-// The command of a name, if it is one.
+// The command of a name, if it is one. No `match` on the names: of a byte string as a pattern a proof knows the length alone.
 #[tactic(auto, unfolding(crate::specs::Commands::named))]
 pub fn command_of(word: &[u8]) -> Option<Command>
     ensures { result ≡ command_of word.now }

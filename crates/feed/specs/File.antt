@@ -1,11 +1,8 @@
 -- A file read whole: what the room holds afterwards is fixed by what the file has.
-use Rattle.std.specs.Prelude.{ℕ, ◌≡◌, Bool, List, leb, length, if◌then◌else◌, Result, Ok, Err}
+use Rattle.std.specs.Prelude.{ℕ, ◌≡◌, List, leb, length, if◌then◌else◌, Result, Ok, Err}
 use Rattle.std.proofs.lemmas.List.Edits.{sets}
 use Rattle.feed.specs.declared.file.LoadFault.{LoadFault}
 use Rattle.feed.specs.declared.file.LoadFault.TheVariants.{NoFile, TooMany}
-
-abbrev pub is_ascii : ℕ → Bool
-is_ascii b = leb b 127
 
 -- bytes at the front of the room, if they are at most 70,000 and fit
 unfoldable pub filled : List ℕ → List ℕ → Result ℕ LoadFault × List ℕ

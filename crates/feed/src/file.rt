@@ -1,12 +1,13 @@
 // A file read whole.
 ghost use Rattle.std.specs.Prelude.{◌≡◌, ◌≤◌, length, IfOk};
-ghost use Rattle.lines.specs.Every.{every};
-ghost use Rattle.feed.specs.File.{is_ascii, filled, Loads};
+ghost use Rattle.feed.specs.declared.file.LoadFault.TheVariants.{NoFile};
+ghost use Rattle.feed.specs.File.{filled, Loads};
 
 use crate::reading::read_more;
 use lines::text::put_text;
 use std::io::Read;
 use std::rt::Files;
+use std::str::Utf8Error;
 use std::{fs, io};
 
 // Why the bytes of a file are not in the room.
@@ -16,11 +17,21 @@ pub enum LoadFault {
     TooMany,
 }
 
-// Whether a name has no byte above 127; the library itself refuses a byte 0.
-fn is_ascii(name: &[u8]) -> bool
-    ensures { result ≡ every is_ascii name.now }
-{
-    name.iter().all(|b| b.is_ascii())
+// A file that cannot be opened or read, and a name that is no text, are no file.
+impl From<io::Error> for LoadFault {
+    ghost from_gives = { λ _ fault. fault ≡ NoFile };
+
+    fn from(_error: io::Error) -> LoadFault {
+        LoadFault::NoFile
+    }
+}
+
+impl From<Utf8Error> for LoadFault {
+    ghost from_gives = { λ _ fault. fault ≡ NoFile };
+
+    fn from(_error: Utf8Error) -> LoadFault {
+        LoadFault::NoFile
+    }
 }
 
 // Reads until the room is full or the file ends, and answers how many bytes there are.
@@ -58,18 +69,13 @@ fn fill(bytes: &[u8], room: &mut [u8]) -> Result<usize, LoadFault>
 pub fn load<F: Files>(files: &F, name: &[u8], room: &mut [u8]) -> Result<usize, LoadFault>
     ensures { Loads room.old (result, room.new) }
 {
-    if !is_ascii(name) {
+    // a name has no byte above 127; the library itself refuses a byte 0
+    if !name.is_ascii() {
         return Err(LoadFault::NoFile);
     }
-    let Ok(path) = str::from_utf8(name) else {
-        return Err(LoadFault::NoFile);
-    };
-    let Ok(mut file) = fs::open(files, path) else {
-        return Err(LoadFault::NoFile);
-    };
+    let path = str::from_utf8(name)?;
+    let mut file = fs::open(files, path)?;
     let mut bytes = [0u8; 70001];
-    let Ok(have) = read_whole(&mut file, &mut bytes) else {
-        return Err(LoadFault::NoFile);
-    };
+    let have = read_whole(&mut file, &mut bytes)?;
     fill(&bytes[0..have], room)
 }

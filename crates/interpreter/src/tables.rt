@@ -13,19 +13,15 @@ pub fn set_table(bytes: &[u8], table: &mut [u8]) -> Result<usize, Fault>
     ensures size { result ≡ hex_size (hex_into bytes.now table.old).0 }
     ensures table_after { table.new ≡ (hex_into bytes.now table.old).1 }
 {
-    match read_hex(bytes, table) {
-        Ok(length) => Ok(length),
-        Err(fault) => Err(hex_fault(fault, Fault::TableBytes)),
-    }
+    read_hex(bytes, table).map_err(|fault| hex_fault(fault, Fault::TableBytes))
 }
 
 // The same of a file.
 pub fn load_table<F: Files>(files: &F, name: &[u8], table: &mut [u8]) -> Result<usize, Fault>
     ensures { TableLoads table.old table.new result }
 {
-    match load(files, name, table) {
-        Ok(length) => Ok(length),
-        Err(LoadFault::NoFile) => Err(Fault::NoFile),
-        Err(LoadFault::TooMany) => Err(Fault::TableBytes),
-    }
+    load(files, name, table).map_err(|fault| match fault {
+        LoadFault::NoFile => Fault::NoFile,
+        LoadFault::TooMany => Fault::TableBytes,
+    })
 }
