@@ -13,6 +13,7 @@ use refusals::{Refusal, number_of, place_of};
 use session::bytes::{read_choices, read_record};
 
 // The number and the place of a refusal, and the call's own number: the claim, the length or the hidden answer, and else 0.
+// A number in place of a Result: C reads the three fields (embalume.h).
 #[repr(C)]
 #[derive(Clone, Copy)]
 pub struct Answer {

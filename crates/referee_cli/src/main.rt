@@ -9,7 +9,7 @@ use lines::text::put_text;
 use std::io::{Read, Write};
 use std::rt::Files;
 
-// Room for the lines that come, for the current table and for an answer.
+// Room for the lines that come, for the current table and for an answer: fixed memory, as all of the referee's.
 #[derive(Drop)]
 struct Rooms {
     lines: [u8; 140007],

@@ -16,7 +16,7 @@ pub struct Sources<R> {
     pub answers: R,
 }
 
-// Room for the lines of each file, for the current table and for an answer.
+// Room for the lines of each file, for the current table and for an answer: fixed memory, as all of the referee's.
 #[derive(Drop)]
 struct Rooms {
     lines: [u8; 140007],
