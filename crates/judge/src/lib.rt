@@ -101,11 +101,14 @@ pub fn judge_arrays(
     ensures { Judges (Held atoms.now clauses.now owners.now seats) Ruled result levels.new }
 {
     judge_heads(atoms, clauses)?;
-    // The index of the uses, made once and lent from here on. An array that a function answers would be copied.
+    // The index of the uses, made once and lent from here on. An array that a function answers would be copied, and so is a literal of anything but
+    // zeros.
     let mut uses = Uses {
-        first: [8192; 1024],
-        next: [8192; 8192],
+        first: [0; 1024],
+        next: [0; 8192],
     };
+    uses.first.fill(8192);
+    uses.next.fill(8192);
     index_uses(clauses.literals, &mut uses);
     let edges = Edges {
         from: owners,
