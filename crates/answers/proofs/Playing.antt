@@ -1,14 +1,14 @@
 -- What play makes of a record: the percepts from marks, and the lowest seat at which a test strikes.
 use mathlib.Core.Path.{◌≡◌, refl, sym, ap, subst, ◌∙◌}
-use mathlib.Core.Bool.{Bool, true, false, not, ◌&&◌}
+use mathlib.Core.Bool.{Bool, false, not, ◌&&◌}
 use mathlib.Core.List.{List}
 use Prim.Native.Nat.{ℕ, zero, suc, ◌+◌, ◌-◌, ◌/◌, ◌%◌, ◌≤◌, ◌<◌}
 use native.Mathlib.Omega.{arith}
-use native.Mathlib.Decide.{ℕ_discrete}
 use native.Mathlib.Numerals.{add-one}
 use lib.Dec.{T, eqb, ltb, lt→ltb}
 use lib.ListN.{get_or, take}
-use Rattle.refusals.specs.Ruling.{nowhere, found, lowest}
+use Rattle.refusals.specs.Ruling.{Found, nowhere, found, lowest}
+use Rattle.refusals.proofs.Ruling.{LowestOf, by_lowest}
 use Rattle.gdl.specs.Game.{Game, next_kind, sees_kind}
 use Rattle.gdl.specs.Sets.{Atoms}
 use Rattle.gdl.specs.Flags.{on, blank}
@@ -24,6 +24,7 @@ use Rattle.session.proofs.Shapes.{shaped_parts, choices_mean}
 use Rattle.truth.specs.Marks.{is_at, marks_of}
 use Rattle.verdict.specs.Consulted.{Consulted, found_in}
 use Rattle.calls.specs.Position.{atom_in, moved, played}
+use Rattle.calls.proofs.Rulings.{from_true, from_false, no_lowest}
 use Rattle.calls.specs.Calls.{unchosen, illegal}
 use Rattle.answers.specs.Lowest.{NoneBelow, Lowest, Chosen, lacks, wrongs}
 use Rattle.answers.proofs.Reading.{wide_at, fits, only_fitting}
@@ -44,21 +45,14 @@ percepts_are G ok X marks e =
 
 -- ---- the lowest seat
 
-module _ (f : ℕ → Bool) where
-  none_from : (i n : ℕ) → NoneBelow f (i + n) → lowest f i n ≡ nowhere
-  none_from i zero h = refl
-  none_from i (suc n) h = rw (h i (omega arith)) (none_from (suc i) n (λ q lt. h q (omega arith)))
-
-  found_from : (i n p : ℕ) → i ≤ p → p < i + n → NoneBelow f p → f p ≡ true → lowest f i n ≡ found p
-  found_from i zero p a b h e = absurd (omega arith)
-  found_from i (suc n) p a b h e =
-      elim (ℕ_discrete p i) [ yes s ↦ rw (subst (λ (x : ℕ). f x ≡ true) s e) (ap found (sym s)) | no ne ↦ rw (h i (omega arith)) (found_from (suc i) n p (omega arith) (omega arith) h e) ]
-
-  pub lowest_none : (n : ℕ) → NoneBelow f n → lowest f 0 n ≡ nowhere
-  lowest_none n h = none_from 0 n (λ q lt. h q (omega arith))
-
-  pub lowest_found : (n r : ℕ) → Lowest f n r → lowest f 0 n ≡ found r
-  lowest_found n r h = found_from 0 n r (omega arith) (omega (arith, h.within)) h.none h.passes
+lowest_found : (f : ℕ → Bool) (n r : ℕ) → Lowest f n r → lowest f 0 n ≡ found r
+lowest_found f n r h = by_lowest f 0 n (λ (x : Found). x ≡ found r) (λ none. absurd (none r (omega arith) (omega (arith, h.within)) (from_true (f r) h.passes))) at_r
+  where
+    at_r : (p : ℕ) → LowestOf f 0 n p → found p ≡ found r
+    at_r p s =
+        let above : p < r → ⊥ = λ lt. from_false (f p) (h.none p lt) s.passes in
+        let under : r < p → ⊥ = λ lt. s.lowest r (omega arith) lt (from_true (f r) h.passes) in
+        ap found (omega arith)
 
 -- ---- the tests of play, from what was read
 
@@ -71,7 +65,7 @@ module _ (G : Game) (σ : Session) {l : Limits} (g : Goes G σ l) (ok : Accepted
 
   module _ (none : NoneBelow (lacks σ.choices) l.seats) where
     pub none_lacks : lowest (unchosen σ) 0 G.seats ≡ nowhere
-    none_lacks = sym (here (unchosen σ)) ∙ lowest_none (unchosen σ) l.seats none
+    none_lacks = sym (here (unchosen σ)) ∙ no_lowest (unchosen σ) l.seats none
 
     pub all_chose : Chosen σ.choices l.seats
     all_chose = record { few = omega (arith, seats_are G g.limits, ok.limits.seats); some = λ s lt. some s (none s lt); within = λ s lt. within s (get_or σ.choices s 0) refl }
@@ -102,7 +96,7 @@ module _ (G : Game) (σ : Session) {l : Limits} (g : Goes G σ l) (ok : Accepted
           })
 
       pub none_illegal : NoneBelow (wrongs σ.choices legals) l.seats → lowest (illegal G σ) 0 G.seats ≡ nowhere
-      none_illegal h = sym (here (illegal G σ)) ∙ lowest_none (illegal G σ) l.seats (λ q lt. sym (same_test q lt) ∙ h q lt)
+      none_illegal h = sym (here (illegal G σ)) ∙ no_lowest (illegal G σ) l.seats (λ q lt. sym (same_test q lt) ∙ h q lt)
 
 -- ---- the record after play
 

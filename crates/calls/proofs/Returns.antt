@@ -16,17 +16,9 @@ use Rattle.session.specs.Shape.{position_shaped, choices_shaped, shaped}
 use Rattle.session.specs.declared.Session.{Session}
 use Rattle.calls.specs.Position.{over, legal, opened, stored, played, moved}
 use Rattle.calls.specs.Message.{message_bytes}
-use Rattle.calls.specs.Calls.{chosen, unchosen, illegal, offer_tests, play_tests, message_tests, model_tests, hidden_tests, check, claim, open_game, offer, play, truth, message, hidden_from}
+use Rattle.calls.specs.Calls.{chosen, unchosen, illegal, offer_tests, play_tests, message_tests, model_tests, hidden_tests, open_game, offer, play, truth, message, hidden_from}
 
--- ---- check, claim, open
-
-pub check_fit : (G : Game) → Success ≡ check (fit G)
-unfolding check
-check_fit G = refl
-
-pub claim_fit : (G : Game) → record { refusal = Success; claim = G.claim } ≡ claim (fit G)
-unfolding claim
-claim_fit G = refl
+-- ---- open
 
 pub open_fit : (G : Game) → record { refusal = Success; session = opened G } ≡ open_game (fit G)
 unfolding open_game
