@@ -1,4 +1,5 @@
 // A game in arrays of numbers, lent to whoever works on it: what goes together is passed together.
+// Arrays of numbers side by side, and no arrays of structs: `Held` of specs/Layout.antt says of each which list it is.
 
 // The atoms: their kinds and fields, each atom at its number in all three.
 #[derive(Clone, Copy)]

@@ -2,6 +2,8 @@
 ghost use Rattle.std.specs.Prelude.{◌≡◌};
 ghost use Rattle.gdl.specs.Kinds.{kind_number};
 
+// Arrays hold the number (`kinds_of` of specs/Layout.antt, and the format): who asks an atom of theirs compares with `number()`, since
+// to make a Kind of each number first would be no plainer.
 #[derive(Clone, Copy, PartialEq, Eq, Debug)]
 pub enum Kind {
     Plain,

@@ -23,8 +23,8 @@ pub enum Fault {
     Large,
 }
 
-// The bytes of a number, by their count. The top bit is set on every byte but the last. An enum of its own: the definitions `run_at`
-// and `number_of` speak of its four cases.
+// The bytes of a number, by their count. The top bit is set on every byte but the last. An enum of its own: `run_at` and `number_of`
+// of specs/Number.antt are defined over its four cases, and a cut is one length of a run among others, no failure to read one.
 #[derive(Clone, Copy)]
 pub enum Run {
     Cut,

@@ -12,7 +12,7 @@ pub struct Reader<'a> {
     pub at: usize,
 }
 
-// What stands at a place of a table, and the place to go on from.
+// What stands at a place of a table, and the place to go on from: that is there at a fault too, so it stands beside the Result.
 #[derive(Clone, Copy)]
 pub struct Found {
     pub number: Result<Item, Fault>,
@@ -23,10 +23,7 @@ pub struct Found {
 fn after(number: Result<Item, Fault>, at: usize) -> usize
     ensures { result ≡ after number at }
 {
-    match number {
-        Ok(item) => item.next,
-        Err(_) => at,
-    }
+    number.map_or(at, |item| item.next)
 }
 
 // The work, on a plain table and a place: whoever has these needs no reader.
@@ -64,6 +61,7 @@ impl<'a> Reader<'a> {
 }
 
 // How a clause record begins: the numbers of its head and of its count of literals, and the place where the literals start.
+// The two stand as they were read, faults too, as `clause_start` of specs/Reading.antt has them.
 #[derive(Clone, Copy)]
 pub struct ClauseStart {
     pub head: Result<Item, Fault>,

@@ -16,12 +16,19 @@ both_ends h firsts seconds e f = record { firsts_are = e; seconds_are = f }
 end_at : (bounds : List Bound) (l : List (Option ℕ)) → l ≡ ends bounds → (kind : ℕ) (end : Option ℕ) → end ≡ get_or l kind None → end_of (get_or bounds kind Absent) ≡ end
 end_at bounds l w kind end e = sym (e ∙ ap (λ (x : List (Option ℕ)). get_or x kind None) w ∙ get_or-map end_of bounds kind Absent)
 
+module _ (h : Header) (firsts seconds : List (Option ℕ)) (w : EndsOf h firsts seconds) (kind : ℕ) (end : Option ℕ) where
+  first_end_lem : end ≡ get_or firsts kind None → end_of (first_bound h kind) ≡ end
+  unfolding first_bound
+  first_end_lem = end_at (first_bounds h) firsts w.firsts_are kind end
+
+  second_end_lem : end ≡ get_or seconds kind None → end_of (second_bound h kind) ≡ end
+  unfolding second_bound
+  second_end_lem = end_at (second_bounds h) seconds w.seconds_are kind end
+
 -- a field that was read up to the number of its bound was read within the bound
 module _ (h : Header) (firsts seconds : List (Option ℕ)) (w : EndsOf h firsts seconds) (s : List ℕ) (at kind k : ℕ) (e : k ≡ kind) (p : Parse ℕ) where
   pub first_read : ((b : Bound) → end_of b ≡ get_or firsts k None → p ≡ field b s at) → p ≡ field (first_bound h kind) s at
-  unfolding first_bound
-  first_read f = rw e at f (first_bound h kind) (end_at (first_bounds h) firsts w.firsts_are kind _ refl)
+  first_read f = rw e at f (first_bound h kind) (first_end_lem h firsts seconds w kind _ refl)
 
   pub second_read : ((b : Bound) → end_of b ≡ get_or seconds k None → p ≡ field b s at) → p ≡ field (second_bound h kind) s at
-  unfolding second_bound
-  second_read f = rw e at f (second_bound h kind) (end_at (second_bounds h) seconds w.seconds_are kind _ refl)
+  second_read f = rw e at f (second_bound h kind) (second_end_lem h firsts seconds w kind _ refl)

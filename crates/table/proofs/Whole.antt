@@ -104,14 +104,14 @@ module _ (h : Header) (old new : Arrays) where
   }
 
   module _ (q : Result ℕ Refusal) where
-    with_clauses : (xs : List Atom) → length xs ≡ h.sizes.atoms → AtomsLaid xs old.atoms new.atoms → (r : Parse (List Clause)) → WroteRest r old.clauses q new.clauses
+    with_clauses_lem : (xs : List Atom) → length xs ≡ h.sizes.atoms → AtomsLaid xs old.atoms new.atoms → (r : Parse (List Clause)) → WroteRest r old.clauses q new.clauses
         → Wrote (after r (λ cs m. ok (game_of xs cs) m)) q
-    with_clauses xs n a (ok cs m) v = (length cs, v.0, record { header_is = same_header h (length xs) n; count_is = refl; atoms = a; clauses = v.1 })
-    with_clauses xs n a (fault f) v = v
+    with_clauses_lem xs n a (ok cs m) v = (length cs, v.0, record { header_is = same_header h (length xs) n; count_is = refl; atoms = a; clauses = v.1 })
+    with_clauses_lem xs n a (fault f) v = v
 
     with_atoms : (p : Parse (List Atom)) → All (λ xs m. length xs ≡ h.sizes.atoms) p → (next : ℕ) → WroteAtoms p old.atoms (Ok tt) next new.atoms
         → (r : ℕ → Parse (List Clause)) → WroteRest (r next) old.clauses q new.clauses → Wrote (after p (λ xs m. after (r m) (λ cs k. ok (game_of xs cs) k))) q
-    with_atoms (ok xs m) n next w r v = let e : next ≡ m = w.1 in rw (← e) (with_clauses xs n w.2 (r next) v)
+    with_atoms (ok xs m) n next w r v = let e : next ≡ m = w.1 in rw (← e) (with_clauses_lem xs n w.2 (r next) v)
     with_atoms (fault f) n next w r v = let z : ◌≡◌ {A = ℕ} 0 1 = cc w in absurd (omega arith)
 
   -- from a place to the place after the atoms

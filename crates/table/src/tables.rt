@@ -9,6 +9,8 @@ use crate::cursor::Cursor;
 use crate::header::{Header, read_header};
 use refusals::Refusal;
 
+// The rooms hold arrays side by side, since `AtomsLaid` and `ClausesLaid` of specs/Says.antt say of each what it holds; their sizes are
+// fixed, since there is no heap.
 // Room for the atoms of a table: their kinds and fields, each atom at its number in all three.
 #[derive(Drop)]
 pub struct AtomRoom {
