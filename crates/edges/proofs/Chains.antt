@@ -1,7 +1,7 @@
 -- The laws of chains of uses, whatever uses what: an index grows from the last place down, and a walk along the chain of a node meets each of its uses.
 use mathlib.Core.Path.{◌≡◌, sym, ap, subst, ◌∙◌}
 use mathlib.Core.List.{List}
-use Prim.Native.Nat.{ℕ, suc, ◌-◌, ◌<◌, ◌≤◌}
+use Prim.Native.Nat.{ℕ, suc, ◌<◌, ◌≤◌}
 use native.Mathlib.Omega.{arith}
 use native.Mathlib.Decide.{ℕ_discrete}
 use lib.ListN.{length, get_or, set, replicate, length-set, get_or-replicate, length-replicate}
@@ -81,16 +81,7 @@ module _ {Use : ℕ → ℕ → Type 0} {many past : ℕ} where
       rest = i.rest;
     }
 
-  pub chain_done : {nodes width : ℕ} {first next : List ℕ} {low : ℕ} → IndexedFrom Use many past nodes width first next low → low ≤ 0 → IndexedFrom Use many past nodes width first next 0
-  chain_done {nodes} {width} {first} {next} {low} i le = let e : low ≡ 0 = omega arith in subst (IndexedFrom Use many past nodes width first next) e i
-
   -- ---- the walk
-
-  pub walk_starts : {Met : ℕ → Type 0} {a k : ℕ} → FirstUse Use many past a 0 k → Walked Use many Met a k
-  walk_starts u = record { met = λ j lt b e. absurd (omega (arith, u.lowest j (omega arith) b e)); here = u.uses }
-
-  pub walk_less : {a k k' : ℕ} → FirstUse Use many past a (suc k) k' → k < many → many - k' < many - k
-  walk_less u lt = omega (arith, u.from)
 
   pub walk_more : {Met Met' : ℕ → Type 0} {a k k' : ℕ} → Walked Use many Met a k → FirstUse Use many past a (suc k) k' → ((j : ℕ) → Met j → Met' j) → Met' k → Walked Use many Met' a k'
   walk_more {Met} {Met'} {a} {k} w u keeps here = record {

@@ -79,9 +79,6 @@ pub ruleset pushes = (push_room, push_scaled)
 
 -- ---- nodes that join
 
-pub joined_none : {P : ℕ → Type 0} {w : Worklist} → Joined P w w
-joined_none = record { keeps = λ p e. e; new = λ p e. inl e; before = λ j b. refl; more = omega arith }
-
 pub joined_more : {P : ℕ → Type 0} {w w' w'' : Worklist} → Joined P w w' → Joined P w' w'' → Joined P w w''
 joined_more a b = record {
   keeps = λ p e. b.keeps p (a.keeps p e);
