@@ -64,8 +64,7 @@ fn weigh(s: &[u8], arrays: &mut Arrays, levels: &mut [u16; 1024]) -> Result<Weig
     let clauses = used_clauses(&arrays.clauses, read.clauses);
     let owners = &arrays.clauses.owners[..clauses.literals.len()];
     let seats = usize::from(read.header.players.seats);
-    let judged = judge::judge_arrays(&atoms, &clauses, owners, seats, levels);
-    let top = judged?;
+    let top = judge::judge_arrays(&atoms, &clauses, owners, seats, levels)?;
     Ok(Weighed { read, top })
 }
 
