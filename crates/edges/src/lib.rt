@@ -10,7 +10,7 @@ pub mod worklist;
 
 use uses::Uses;
 
-// The edges of the graph, each from an owner to a literal's atom, and their index by these ends.
+// The edges of the graph, each from an owner to a literal's atom, and their index by these ends. Two arrays, as a table's room holds them.
 #[derive(Clone, Copy)]
 pub struct Edges<'a> {
     pub from: &'a [u16],

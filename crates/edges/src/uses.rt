@@ -2,7 +2,8 @@
 ghost use Rattle.std.specs.Prelude.{◌<◌, ◌^◌};
 ghost use Rattle.edges.specs.Uses.{Unindexed, Indexed, Put};
 
-// Places by the nodes that they use: `first` of the node, then `next` of each place, rising, until a number past all places.
+// Places by the nodes that they use: `first` of the node, then `next` of each place, rising, until a number past all places. Numbers in place of
+// references, since memory is fixed.
 #[derive(Drop)]
 pub struct Chains<const NODES: usize, const PLACES: usize> {
     pub first: [u16; NODES],

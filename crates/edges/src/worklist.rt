@@ -1,7 +1,8 @@
 // Marks on nodes, and a queue in which each marked node stands once.
 ghost use Rattle.edges.specs.Queue.{Queue};
 
-// The marks, 0 or 1, and the queue of `many` marked nodes.
+// The marks, and the queue of `many` marked nodes. An array with its length beside it, since memory is fixed; marks are 0 or 1, as the flags of a
+// model and of a reach are (`Closes`, `Reached`).
 #[derive(Drop)]
 pub struct Worklist {
     pub marks: [u8; 1024],

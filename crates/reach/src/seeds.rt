@@ -7,7 +7,7 @@ use edges::worklist::Worklist;
 use gdl::arrays::AtomArrays;
 use gdl::kinds::Kind;
 
-// Whether the reach of the seat starts from an atom, by its kind and first field, which decide.
+// Whether the reach of the seat starts from an atom, by its kind and first field, which decide. The arrays hold kinds by the table's numbers.
 fn is_seed(kind: u16, first: u16, seat: u16) -> bool
     ensures { result ≡ is_seed seat (record { kind = kind; first = first; second = 0 }) }
 {
