@@ -33,13 +33,7 @@ fn first_illegal(choices: [u16; 8], legal: &[u8; 2048], seats: u16) -> Option<us
     requires { Chosen choices seats }
     ensures { IsLowest (wrongs choices legal.now) seats result }
 {
-    for s in 0..usize::from(seats) {
-        let chosen = usize::from(choices[s] - 1);
-        if legal[s * 256 + chosen] != 1 {
-            return Some(s);
-        }
-    }
-    None
+    (0..usize::from(seats)).find(|s| legal[*s * 256 + usize::from(choices[*s] - 1)] != 1)
 }
 
 // The next record. What was found is true with the joint choice; by rule 10 that changes neither the end nor what is legal.
@@ -48,12 +42,11 @@ fn played(learnt: &Learnt, session: Session) -> Result<Session, Refusal>
     ensures { (G : Game) → Accepted G → found learnt.now ≡ found_in G (model G session.position session.choices) → moved_from session result ≡ play (fit G) session }
 {
     let limits = going(learnt, session)?;
-    let choices = session.choices;
-    if let Some(seat) = first_unchosen(choices, limits.seats) {
+    if let Some(seat) = first_unchosen(session.choices, limits.seats) {
         return Err(Refusal::NoChoice(seat));
     }
     let legal = marks_in(learnt, Kind::Legal, 256);
-    if let Some(seat) = first_illegal(choices, &legal, limits.seats) {
+    if let Some(seat) = first_illegal(session.choices, &legal, limits.seats) {
         return Err(Refusal::NotLegal(seat));
     }
     if session.round == 65535 {
