@@ -86,12 +86,10 @@ fn any_misused(kinds: &[u16], first: &[u16; 1024], many: usize) -> bool
     requires { length kinds.now ≤ 1024 }
     ensures { AnyMisused kinds.now first.now many result }
 {
-    for (p, kind) in kinds.iter().enumerate() {
-        if misused(*kind, first[p], many) {
-            return true;
-        }
-    }
-    false
+    kinds
+        .iter()
+        .zip(first)
+        .any(|(kind, first)| misused(*kind, *first, many))
 }
 
 // 8: the lowest clause that breaks it. The first uses tell whether there is one, so that an accepted table's literals are not read again.
