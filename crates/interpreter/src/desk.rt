@@ -76,6 +76,7 @@ fn turned(desk: Desk, turned: Turned) -> Answered
 }
 
 // The command of a line, or what is wrong with its blanks, its first word or the number of its words.
+#[tactic(auto, using(crate::proofs::Answering::faulting))]
 fn command_in(line: &[u8]) -> Result<Command, Fault>
     ensures { result ≡ command_in line.now }
 {
@@ -97,6 +98,7 @@ fn command_in(line: &[u8]) -> Result<Command, Fault>
 }
 
 // The answer to a command whose words are as many as they are to be, or what is wrong with them.
+#[tactic(auto, using(crate::proofs::Answering::answerings))]
 fn answer_command<F: Files>(
     files: &F,
     line: &[u8],
@@ -132,6 +134,7 @@ fn answer_command<F: Files>(
 }
 
 // The answer to a line, or what is wrong with it.
+#[tactic(auto, using(crate::proofs::Answering::linings))]
 fn answer_line<F: Files>(
     files: &F,
     line: &[u8],
@@ -162,6 +165,7 @@ pub fn answer<F: Files>(
 }
 
 // The answer to what a feed has found in its room.
+#[tactic(auto, using(crate::proofs::Answering::linings))]
 pub fn answer_found<F: Files>(
     files: &F,
     lines: &[u8],

@@ -23,6 +23,7 @@ pub fn check(table: &[u8], room: &mut [u8]) -> usize
 }
 
 // "NUMBER PLACE CLAIM"
+#[tactic(auto, using(crate::proofs::Looking::lookings))]
 pub fn claim(table: &[u8], room: &mut [u8]) -> usize
     ensures { (result, room.new) ≡ said (claim_texts (claim (judge table.now))) room.old }
 {
@@ -32,6 +33,7 @@ pub fn claim(table: &[u8], room: &mut [u8]) -> usize
 }
 
 // "NUMBER PLACE LENGTH HEX"
+#[tactic(auto, using(crate::proofs::Looking::lookings))]
 fn put_message(
     table: &[u8],
     session: Session,
@@ -66,6 +68,7 @@ pub fn message(line: &[u8], table: &[u8], session: Session, room: &mut [u8]) -> 
 }
 
 // "NUMBER PLACE ANSWER"
+#[tactic(auto, using(crate::proofs::Looking::lookings))]
 fn put_hidden(table: &[u8], asking: Seat, moving: Seat, choice: Move, room: &mut [u8]) -> usize
     ensures { Says (HiddenTold (judge table.now) asking.0 moving.0 choice.0) room.old (result, room.new) }
 {
@@ -92,6 +95,7 @@ fn flags_in(lent: &[u8]) -> usize
 }
 
 // "NUMBER PLACE HEX": the first A flags. Before the call the lent room holds no flag.
+#[tactic(auto, using(crate::proofs::Looking::lookings))]
 fn put_model(table: &[u8], placed: &Placed, lent: &mut [u8], room: &mut [u8]) -> usize
     ensures { Says (ModelTold (judge table.now) placed.now.position placed.now.choices lent.old) room.old (result, room.new) }
 {

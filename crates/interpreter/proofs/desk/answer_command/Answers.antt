@@ -1,34 +1,7 @@
--- Each arm is one row of the protocol; a fault in a row's words is handed on.
+-- Each arm is one row of the protocol.
 use borrow.Author.Rules.{rules}
-use Rattle.interpreter.proofs.Answering.{answerings, at_fault, answers_message, answers_hidden, answers_model, answers_offer, answers_record}
+use Rattle.interpreter.proofs.Answering.{answerings, answers_message, answers_hidden, answers_model, answers_offer, answers_record}
 use Rattle.interpreter.proofs.desk.answer_command.Goals as goal
-
-pub returns-in_err-set_table-in-Table : goal.returns-in_err-set_table-in-Table
-returns-in_err-set_table-in-Table g c = search (rules, answerings, at_fault)
-
-pub returns-in_err-load_table-in-Load : goal.returns-in_err-load_table-in-Load
-returns-in_err-load_table-in-Load g c = search (rules, answerings, at_fault)
-
-pub returns-in_err-offer-in-Offer : goal.returns-in_err-offer-in-Offer
-returns-in_err-offer-in-Offer g c = search (rules, answerings, at_fault)
-
-pub returns-in_err-message-in-Message : goal.returns-in_err-message-in-Message
-returns-in_err-message-in-Message g c = search (rules, answerings, at_fault)
-
-pub returns-in_err-hidden-in-Hidden : goal.returns-in_err-hidden-in-Hidden
-returns-in_err-hidden-in-Hidden g c = search (rules, answerings, at_fault)
-
-pub returns-in_err-model-in-Model : goal.returns-in_err-model-in-Model
-returns-in_err-model-in-Model g c = search (rules, answerings, at_fault)
-
-pub returns-in_err-record-in-Record : goal.returns-in_err-record-in-Record
-returns-in_err-record-in-Record g c = search (rules, answerings, at_fault)
-
-pub returns-in_ok-set_table-in-Table : goal.returns-in_ok-set_table-in-Table
-returns-in_ok-set_table-in-Table g c = search (rules, answerings)
-
-pub returns-in_ok-load_table-in-Load : goal.returns-in_ok-load_table-in-Load
-returns-in_ok-load_table-in-Load g c = search (rules, answerings)
 
 pub returns-in-Check : goal.returns-in-Check
 returns-in-Check g c = search (rules, answerings)

@@ -1,13 +1,6 @@
--- Each return is one case of the definition.
-use borrow.Author.Rules.{rules}
-use Rattle.interpreter.proofs.Answering.{wrong_blanks, wrong_command, missing_word, extra_word, all_words}
+-- The number of words is told against what the command takes.
+use Rattle.interpreter.proofs.Answering.{missing_word, extra_word, all_words}
 use Rattle.interpreter.proofs.desk.command_in.Goals as goal
-
-pub returns-then-not-well_spaced : goal.returns-then-not-well_spaced
-returns-then-not-well_spaced c = search (rules, wrong_blanks)
-
-pub returns-in_default : goal.returns-in_default
-returns-in_default c = search (rules, wrong_command)
 
 pub returns-then-words-fewest : goal.returns-then-words-fewest
 returns-then-words-fewest c =
