@@ -117,7 +117,8 @@ pub fn marks_in(learnt: &Learnt, kind: Kind, width: usize) -> [u8; 2048]
     truth::marks::marks_of(&atoms, &learnt.flags, kind, width)
 }
 
-// The verdict on a table and, where it is accepted, the reach of a seat.
+// The verdict on a table and, where it is accepted, the reach of a seat. It stays beside `consult`: one function over a closure would have to
+// say what the closure may be asked of the arrays, which is longer than the lines that the two have in common.
 pub fn trace(s: &[u8], seat: u16) -> Result<Learnt, Refusal>
     ensures { Learns (judge s.now) (λ G. reach_of G seat) result }
 {
