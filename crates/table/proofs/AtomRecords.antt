@@ -16,7 +16,7 @@ use Rattle.table.specs.Table.{atom, atoms_from}
 use Rattle.table.specs.Says.{atom_of, key_of, WroteAtoms, AtomsLaid}
 use Rattle.table.specs.declared.header.Header.{Header}
 use Rattle.table.specs.declared.atoms.AtomRecord.{AtomRecord}
-use Rattle.table.specs.declared.cursor.Cursor.{Cursor}
+use Rattle.reader.specs.declared.Reader.{Reader}
 use Rattle.table.specs.declared.tables.AtomRoom.{AtomRoom}
 use Rattle.table.proofs.Runs.{onto, onto_none, onto_cons, stored_next}
 
@@ -31,13 +31,13 @@ too_low a None = false
 too_low a (Some b) = not (ltb (key_of b) (key_of a))
 
 -- what holds while atoms are read: those that are done stand in the arrays, and the reading goes on from them
-pub record Reading (h : Header) (n : ℕ) (start : Cursor) (old room : AtomRoom) (k : ℕ) (last : Option AtomRecord) (cursor : Cursor) : Type 0 where
-  pub same : cursor.bytes ≡ start.bytes
+pub record Reading (h : Header) (n : ℕ) (start : Reader) (old room : AtomRoom) (k : ℕ) (last : Option AtomRecord) (reader : Reader) : Type 0 where
+  pub same : reader.table ≡ start.table
   pub within : k ≤ n
   pub done : List Atom
   pub many : length done ≡ k
   pub laid : AtomsLaid done old room
-  pub whole : atoms_from h n 0 start.bytes.now start.at ≡ onto done (atoms_from h (n - k) (least_after last) cursor.bytes.now cursor.at)
+  pub whole : atoms_from h n 0 start.table.now start.at ≡ onto done (atoms_from h (n - k) (least_after last) reader.table.now reader.at)
 
 flip : (x y : ℕ) → ltb x (y + 1) ≡ not (ltb y x)
 flip x y = elim (dec_lt y x) [
@@ -49,7 +49,7 @@ low_test : (a : AtomRecord) (last : Option AtomRecord) (t : Bool) → too_low a 
 low_test a None t e = rw (le-ltb (key_of a) 0 (omega arith)) e
 low_test a (Some b) t e = rw (flip (key_of a) (key_of b)) e
 
-module _ {h : Header} {n : ℕ} {start : Cursor} {old : AtomRoom} where
+module _ {h : Header} {n : ℕ} {start : Reader} {old : AtomRoom} where
   pub reading_starts : Reading h n start old old 0 None start
   reading_starts = record {
     same = refl;
@@ -60,21 +60,21 @@ module _ {h : Header} {n : ℕ} {start : Cursor} {old : AtomRoom} where
     whole = rw sub-zero (onto_none _);
   }
 
-  module _ {room : AtomRoom} {k : ℕ} {last : Option AtomRecord} {cursor : Cursor} (i : Reading h n start old room k last cursor) where
+  module _ {room : AtomRoom} {k : ℕ} {last : Option AtomRecord} {reader : Reader} (i : Reading h n start old room k last reader) where
     module _ (l : k < n) where
       left : n - k ≡ suc (n - (k + 1))
       left = omega arith
 
-      pub reading_fault : {f : Refusal} (at : ℕ) → fault f ≡ atom h cursor.bytes.now cursor.at → WroteAtoms (atoms_from h n 0 start.bytes.now start.at) old (Err f) at room
+      pub reading_fault : {f : Refusal} (at : ℕ) → fault f ≡ atom h reader.table.now reader.at → WroteAtoms (atoms_from h n 0 start.table.now start.at) old (Err f) at room
       unfolding atoms_from onto
       reading_fault {f} at e = rw (i.whole, left, ← e) refl
 
-      module _ {a : AtomRecord} (next : Cursor) (e : ok (atom_of a) next.at ≡ atom h cursor.bytes.now cursor.at) where
-        pub reading_low : too_low a last ≡ true → WroteAtoms (atoms_from h n 0 start.bytes.now start.at) old (Err (NotAbove cursor.at)) next.at room
+      module _ {a : AtomRecord} (next : Reader) (e : ok (atom_of a) next.at ≡ atom h reader.table.now reader.at) where
+        pub reading_low : too_low a last ≡ true → WroteAtoms (atoms_from h n 0 start.table.now start.at) old (Err (NotAbove reader.at)) next.at room
         unfolding atoms_from onto
         reading_low m = rw (i.whole, left, ← e, low_test a last true m) refl
 
-        pub reading_more : next.bytes ≡ cursor.bytes → too_low a last ≡ false
+        pub reading_more : next.table ≡ reader.table → too_low a last ≡ false
             → Reading h n start old (record { kinds = set room.kinds k a.kind; firsts = set room.firsts k a.first; seconds = set room.seconds k a.second }) (k + 1) (Some a) next
         unfolding atoms_from
         reading_more t m =
@@ -92,7 +92,7 @@ module _ {h : Header} {n : ℕ} {start : Cursor} {old : AtomRoom} where
               whole = rw (i.whole, left, ← e, low_test a last false m, t) (onto_cons _ _ _);
             }
 
-    pub reading_done : n ≤ k → WroteAtoms (atoms_from h n 0 start.bytes.now start.at) old (Ok tt) cursor.at room
+    pub reading_done : n ≤ k → WroteAtoms (atoms_from h n 0 start.table.now start.at) old (Ok tt) reader.at room
     unfolding atoms_from onto
     reading_done m =
         let z : n - k ≡ 0 = omega (arith, i.within) in

@@ -21,7 +21,7 @@ use Rattle.table.specs.Parse.{Parse, ok, fault, after, bounded, refuse◌if◌}
 use Rattle.table.specs.Table.{literals, clause, clauses_from}
 use Rattle.table.specs.Says.{outline_of, WroteLiterals, WroteClause, WroteClauses}
 use Rattle.table.specs.declared.clauses.Outline.{Outline}
-use Rattle.table.specs.declared.cursor.Cursor.{Cursor}
+use Rattle.reader.specs.declared.Reader.{Reader}
 use Rattle.table.specs.declared.tables.ClauseRoom.{ClauseRoom}
 use Rattle.table.proofs.Values.{All, all_after, bounded_fine}
 use Rattle.table.proofs.Runs.{onto, onto_none, onto_cons, sets_append, stored_next}
@@ -29,28 +29,28 @@ use Rattle.table.proofs.Runs.{onto, onto_none, onto_cons, sets_append, stored_ne
 -- ---- literals
 
 -- what holds while literals are read: those that are done stand in the room, and the reading goes on from them
-pub record Filling (n end : ℕ) (start : Cursor) (old : List ℕ) (used : ℕ) (room : List ℕ) (k : ℕ) (cursor : Cursor) : Type 0 where
-  pub same : cursor.bytes ≡ start.bytes
+pub record Filling (n end : ℕ) (start : Reader) (old : List ℕ) (used : ℕ) (room : List ℕ) (k : ℕ) (reader : Reader) : Type 0 where
+  pub same : reader.table ≡ start.table
   pub within : k ≤ n
   pub done : List Literal
   pub many : length done ≡ k
   pub held : room ≡ sets old used (map code_of done)
-  pub whole : literals n end start.bytes.now start.at ≡ onto done (literals (n - k) end cursor.bytes.now cursor.at)
+  pub whole : literals n end start.table.now start.at ≡ onto done (literals (n - k) end reader.table.now reader.at)
 
-module _ {n end : ℕ} {start : Cursor} {old : List ℕ} {used : ℕ} where
+module _ {n end : ℕ} {start : Reader} {old : List ℕ} {used : ℕ} where
   pub filling_starts : Filling n end start old used old 0 start
   filling_starts = record { same = refl; within = omega arith; done = []; many = refl; held = refl; whole = rw sub-zero (onto_none _) }
 
-  module _ {room : List ℕ} {k : ℕ} {cursor : Cursor} (i : Filling n end start old used room k cursor) where
+  module _ {room : List ℕ} {k : ℕ} {reader : Reader} (i : Filling n end start old used room k reader) where
     module _ (l : k < n) where
       left : n - k ≡ suc (n - (k + 1))
       left = omega arith
 
-      pub filling_fault : {f : Refusal} (at : ℕ) → fault f ≡ bounded 0 end cursor.bytes.now cursor.at → WroteLiterals (literals n end start.bytes.now start.at) old used (Err f) at room
+      pub filling_fault : {f : Refusal} (at : ℕ) → fault f ≡ bounded 0 end reader.table.now reader.at → WroteLiterals (literals n end start.table.now start.at) old used (Err f) at room
       unfolding literals onto
       filling_fault at e = rw (i.whole, left, ← e) refl
 
-      pub filling_more : {v : ℕ} {next : Cursor} → ok v next.at ≡ bounded 0 end cursor.bytes.now cursor.at → next.bytes ≡ cursor.bytes
+      pub filling_more : {v : ℕ} {next : Reader} → ok v next.at ≡ bounded 0 end reader.table.now reader.at → next.table ≡ reader.table
           → Filling n end start old used (set room (used + k) v) (k + 1) next
       unfolding literals
       filling_more {v} e t =
@@ -64,7 +64,7 @@ module _ {n end : ℕ} {start : Cursor} {old : List ℕ} {used : ℕ} where
             whole = rw (i.whole, left, ← e, t) (onto_cons _ _ _);
           }
 
-    pub filling_done : n ≤ k → WroteLiterals (literals n end start.bytes.now start.at) old used (Ok tt) cursor.at room
+    pub filling_done : n ≤ k → WroteLiterals (literals n end start.table.now start.at) old used (Ok tt) reader.at room
     unfolding literals onto
     filling_done m =
         let z : n - k ≡ 0 = omega arith in
@@ -131,8 +131,8 @@ missed (ok c n) old used at new f w = cc w.0
 missed (fault h) old used at new f w = cc w
 
 -- what holds while clauses are read: those that are done are laid out, and the reading goes on from them
-pub record Laying (n a : ℕ) (start : Cursor) (old room : ClauseRoom) (used k : ℕ) (cursor : Cursor) : Type 0 where
-  pub same : cursor.bytes ≡ start.bytes
+pub record Laying (n a : ℕ) (start : Reader) (old room : ClauseRoom) (used k : ℕ) (reader : Reader) : Type 0 where
+  pub same : reader.table ≡ start.table
   pub within : k ≤ n
   pub left : used ≤ 8192
   pub long : length room.owners ≡ 8192
@@ -143,13 +143,13 @@ pub record Laying (n a : ℕ) (start : Cursor) (old room : ClauseRoom) (used k :
   pub starts : set room.starts k used ≡ sets old.starts 0 (starts_from 0 done)
   pub literals : room.literals ≡ sets old.literals 0 (literals_of done)
   pub owners : room.owners ≡ sets old.owners 0 (owners_of done)
-  pub whole : clauses_from n a 8192 start.bytes.now start.at ≡ onto done (clauses_from (n - k) a (8192 - used) cursor.bytes.now cursor.at)
+  pub whole : clauses_from n a 8192 start.table.now start.at ≡ onto done (clauses_from (n - k) a (8192 - used) reader.table.now reader.at)
 
 -- the room after a clause more
 abbrev pub with_clause : ClauseRoom → ℕ → ℕ → ℕ → List ℕ → List ℕ → ClauseRoom
 with_clause room k head used literals owners = record { heads = set room.heads k head; starts = set room.starts k used; literals = literals; owners = owners }
 
-module _ {n a : ℕ} {start : Cursor} {old : ClauseRoom} where
+module _ {n a : ℕ} {start : Reader} {old : ClauseRoom} where
   pub laying_starts : length old.owners ≡ 8192 → Laying n a start old old 0 0 start
   laying_starts h = record {
     same = refl;
@@ -166,18 +166,18 @@ module _ {n a : ℕ} {start : Cursor} {old : ClauseRoom} where
     whole = rw sub-zero (onto_none _);
   }
 
-  module _ {room : ClauseRoom} {used k : ℕ} {cursor : Cursor} (i : Laying n a start old room used k cursor) where
+  module _ {room : ClauseRoom} {used k : ℕ} {reader : Reader} (i : Laying n a start old room used k reader) where
     module _ (l : k < n) where
       left_clauses : n - k ≡ suc (n - (k + 1))
       left_clauses = omega arith
 
-      pub laying_fault : (at : ℕ) (new : List ℕ) (f : Refusal) (room' : ClauseRoom) → WroteClause (clause a (8192 - used) cursor.bytes.now cursor.at) room.literals used (Err f) at new
-          → WroteClauses (clauses_from n a 8192 start.bytes.now start.at) old (Err f) at room'
+      pub laying_fault : (at : ℕ) (new : List ℕ) (f : Refusal) (room' : ClauseRoom) → WroteClause (clause a (8192 - used) reader.table.now reader.at) room.literals used (Err f) at new
+          → WroteClauses (clauses_from n a 8192 start.table.now start.at) old (Err f) at room'
       unfolding clauses_from onto
-      laying_fault at new f room' w = rw (i.whole, left_clauses, missed (clause a (8192 - used) cursor.bytes.now cursor.at) room.literals used at new f w) refl
+      laying_fault at new f room' w = rw (i.whole, left_clauses, missed (clause a (8192 - used) reader.table.now reader.at) room.literals used at new f w) refl
 
-      next_laying : (c : Clause) (next : Cursor) (h count : ℕ) (new owners : List ℕ) → next.bytes ≡ cursor.bytes
-          → clause a (8192 - used) cursor.bytes.now cursor.at ≡ ok c next.at → new ≡ sets room.literals used (map code_of c.body)
+      next_laying : (c : Clause) (next : Reader) (h count : ℕ) (new owners : List ℕ) → next.table ≡ reader.table
+          → clause a (8192 - used) reader.table.now reader.at ≡ ok c next.at → new ≡ sets room.literals used (map code_of c.body)
           → length c.body ≤ 8192 - used → h ≡ c.head → count ≡ length c.body → owners ≡ sets room.owners used (replicate count h)
           → Laying n a start old (with_clause room k h used new owners) (used + count) (k + 1) next
       unfolding clauses_from
@@ -202,18 +202,18 @@ module _ {n a : ℕ} {start : Cursor} {old : ClauseRoom} where
             whole = rw (i.whole, left_clauses, e, q, t) (onto_cons _ _ _);
           }
 
-      module _ (x : Outline) (next : Cursor) (new : List ℕ) (w : WroteClause (clause a (8192 - used) cursor.bytes.now cursor.at) room.literals used (Ok x) next.at new) where
-        g : Got (clause a (8192 - used) cursor.bytes.now cursor.at) room.literals used x next.at new
-        g = got (clause a (8192 - used) cursor.bytes.now cursor.at) room.literals used new x next.at w
+      module _ (x : Outline) (next : Reader) (new : List ℕ) (w : WroteClause (clause a (8192 - used) reader.table.now reader.at) room.literals used (Ok x) next.at new) where
+        g : Got (clause a (8192 - used) reader.table.now reader.at) room.literals used x next.at new
+        g = got (clause a (8192 - used) reader.table.now reader.at) room.literals used new x next.at w
 
         fits : length g.clause.body ≤ 8192 - used
-        fits = rw g.read at (clause_fits a (8192 - used) cursor.bytes.now cursor.at)
+        fits = rw g.read at (clause_fits a (8192 - used) reader.table.now reader.at)
 
         pub few : used + x.count ≤ 8192
         few = omega (arith, fits, g.count, i.left)
 
         -- its owners written as a part of the room that is all its head
-        pub laying_more : (count many : ℕ) (part : List ℕ) → next.bytes ≡ cursor.bytes → count ≡ x.count → many ≡ count
+        pub laying_more : (count many : ℕ) (part : List ℕ) → next.table ≡ reader.table → count ≡ x.count → many ≡ count
             → part ≡ replicate (length (mid_of used many room.owners)) x.head.0
             → Laying n a start old (with_clause room k x.head.0 used new (put_mid used many room.owners part)) (used + count) (k + 1) next
         laying_more count many part t e f filled =
@@ -221,7 +221,7 @@ module _ {n a : ℕ} {start : Cursor} {old : ClauseRoom} where
             let owned = put_mid-replicate used many x.count x.head.0 room.owners part filled (f ∙ e) long in
             rw e (next_laying g.clause next x.head.0 x.count new _ t g.read g.held fits g.head g.count owned)
 
-    pub laying_done : n ≤ k → WroteClauses (clauses_from n a 8192 start.bytes.now start.at) old (Ok tt) cursor.at
+    pub laying_done : n ≤ k → WroteClauses (clauses_from n a 8192 start.table.now start.at) old (Ok tt) reader.at
         (record { heads = room.heads; starts = set room.starts n used; literals = room.literals; owners = room.owners })
     unfolding clauses_from onto
     laying_done m =

@@ -14,7 +14,7 @@ use Rattle.table.specs.Parse.{Parse, ok, fault, after, bounded, refuse◌if◌}
 use Rattle.table.specs.Table.{header, atom, key, atoms_from, clause, clauses_from, clauses, game, table}
 use Rattle.table.specs.Says.{WroteAtoms, AtomsLaid, ClausesLaid, WroteClauses, WroteRest, WroteGame, WroteTable}
 use Rattle.table.specs.declared.header.Header.{Header}
-use Rattle.table.specs.declared.cursor.Cursor.{Cursor}
+use Rattle.reader.specs.declared.Reader.{Reader}
 use Rattle.table.specs.declared.tables.ClauseRoom.{ClauseRoom}
 use Rattle.table.specs.declared.tables.Arrays.{Arrays}
 use Rattle.table.proofs.Values.{All, all_after, any}
@@ -44,26 +44,26 @@ module _ (old new : ClauseRoom) where
   missed (fault h) at f w = cc w
 
   -- from a place to the place after the count, and from there to the place after the clauses
-  module _ (a many : ℕ) (start next end : Cursor) (t : next.bytes ≡ start.bytes) (e : ok many next.at ≡ bounded 0 2049 start.bytes.now start.at) where
-    pub empty_clauses : (f : Refusal) → WroteClauses (clauses_from many a 8192 next.bytes.now next.at) old (Err f) end.at new
-        → WroteRest (clauses a start.bytes.now start.at) old (Err f) new
+  module _ (a many : ℕ) (start next end : Reader) (t : next.table ≡ start.table) (e : ok many next.at ≡ bounded 0 2049 start.table.now start.at) where
+    pub empty_clauses : (f : Refusal) → WroteClauses (clauses_from many a 8192 next.table.now next.at) old (Err f) end.at new
+        → WroteRest (clauses a start.table.now start.at) old (Err f) new
     unfolding clauses
-    empty_clauses f w = rw (← e, ← t, missed (clauses_from many a 8192 next.bytes.now next.at) end.at f w) refl
+    empty_clauses f w = rw (← e, ← t, missed (clauses_from many a 8192 next.table.now next.at) end.at f w) refl
 
-    module _ (u : end.bytes ≡ next.bytes) (w : WroteClauses (clauses_from many a 8192 next.bytes.now next.at) old (Ok tt) end.at new) where
-      cg : Got (clauses_from many a 8192 next.bytes.now next.at) end.at
-      cg = got (clauses_from many a 8192 next.bytes.now next.at) end.at w
+    module _ (u : end.table ≡ next.table) (w : WroteClauses (clauses_from many a 8192 next.table.now next.at) old (Ok tt) end.at new) where
+      cg : Got (clauses_from many a 8192 next.table.now next.at) end.at
+      cg = got (clauses_from many a 8192 next.table.now next.at) end.at w
 
-      pub longer : end.at < length end.bytes.now → WroteRest (clauses a start.bytes.now start.at) old (Err (BytesAfter end.at)) new
+      pub longer : end.at < length end.table.now → WroteRest (clauses a start.table.now start.at) old (Err (BytesAfter end.at)) new
       unfolding clauses
-      longer d = let f : end.at < length next.bytes.now = rw u at d in rw (← e, ← t, cg.read, lt-ltb end.at (length next.bytes.now)) refl
+      longer d = let f : end.at < length next.table.now = rw u at d in rw (← e, ← t, cg.read, lt-ltb end.at (length next.table.now)) refl
 
-      pub all_clauses : length end.bytes.now ≤ end.at → WroteRest (clauses a start.bytes.now start.at) old (Ok many) new
+      pub all_clauses : length end.table.now ≤ end.at → WroteRest (clauses a start.table.now start.at) old (Ok many) new
       unfolding clauses
       all_clauses d =
-          let m : length cg.found ≡ many = rw cg.read at (clauses_many many a 8192 next.bytes.now next.at) in
-          let f : length next.bytes.now ≤ end.at = rw u at d in
-          rw (← e, ← t, cg.read, le-ltb end.at (length next.bytes.now)) (rw m refl, cg.laid)
+          let m : length cg.found ≡ many = rw cg.read at (clauses_many many a 8192 next.table.now next.at) in
+          let f : length next.table.now ≤ end.at = rw u at d in
+          rw (← e, ← t, cg.read, le-ltb end.at (length next.table.now)) (rw m refl, cg.laid)
 
 -- ---- the table
 
@@ -115,17 +115,17 @@ module _ (h : Header) (old new : Arrays) where
     with_atoms (fault f) n next w r v = let z : ◌≡◌ {A = ℕ} 0 1 = cc w in absurd (omega arith)
 
   -- from a place to the place after the atoms
-  module _ (start next : Cursor) where
-    pub empty_atoms : (f : Refusal) → WroteAtoms (atoms_from h h.sizes.atoms 0 start.bytes.now start.at) old.atoms (Err f) next.at new.atoms
-        → Wrote (game h start.bytes.now start.at) (Err f)
+  module _ (start next : Reader) where
+    pub empty_atoms : (f : Refusal) → WroteAtoms (atoms_from h h.sizes.atoms 0 start.table.now start.at) old.atoms (Err f) next.at new.atoms
+        → Wrote (game h start.table.now start.at) (Err f)
     unfolding game
-    empty_atoms f w = atoms_missed (atoms_from h h.sizes.atoms 0 start.bytes.now start.at) _ next.at f w
+    empty_atoms f w = atoms_missed (atoms_from h h.sizes.atoms 0 start.table.now start.at) _ next.at f w
 
-    pub all_game : (q : Result ℕ Refusal) → next.bytes ≡ start.bytes → WroteAtoms (atoms_from h h.sizes.atoms 0 start.bytes.now start.at) old.atoms (Ok tt) next.at new.atoms
-        → WroteRest (clauses h.sizes.atoms next.bytes.now next.at) old.clauses q new.clauses → Wrote (game h start.bytes.now start.at) q
+    pub all_game : (q : Result ℕ Refusal) → next.table ≡ start.table → WroteAtoms (atoms_from h h.sizes.atoms 0 start.table.now start.at) old.atoms (Ok tt) next.at new.atoms
+        → WroteRest (clauses h.sizes.atoms next.table.now next.at) old.clauses q new.clauses → Wrote (game h start.table.now start.at) q
     unfolding game
-    all_game q t w v = with_atoms q (atoms_from h h.sizes.atoms 0 start.bytes.now start.at) (atoms_many h h.sizes.atoms 0 start.bytes.now start.at) next.at w
-        (clauses h.sizes.atoms start.bytes.now) (rw t at v)
+    all_game q t w v = with_atoms q (atoms_from h h.sizes.atoms 0 start.table.now start.at) (atoms_many h h.sizes.atoms 0 start.table.now start.at) next.at w
+        (clauses h.sizes.atoms start.table.now) (rw t at v)
 
 -- ---- the whole table
 

@@ -4,9 +4,10 @@ ghost use Rattle.table.specs.declared.header.Header.{Header};
 ghost use Rattle.table.specs.Table.{Bound, first_bounds, second_bounds, field, atom, atoms_from};
 ghost use Rattle.table.specs.Says.{says, end_of, ends, EndsOf, atom_says, key_of, WroteAtoms};
 
-use crate::cursor::Cursor;
+use crate::fields::number;
 use crate::header::Header;
 use crate::tables::AtomRoom;
+use reader::Reader;
 use refusals::Refusal;
 
 // What each kind allows in its first field: nothing, or numbers below an end. Made once for a table.
@@ -51,12 +52,12 @@ fn second_ends(h: Header) -> [Option<u32>; 10]
 
 // A field that a kind may lack: then it counts as 0 and takes no byte.
 #[tactic(auto, unfolding(crate::specs::Table::field))]
-fn read_optional(cursor: &mut Cursor, end: Option<u32>) -> Result<u16, Refusal>
-    ensures same { cursor.new.bytes ≡ cursor.old.bytes }
-    ensures says { (b : Bound) → end_of b ≡ end → says result cursor.new.at ≡ field b cursor.old.bytes.now cursor.old.at }
+fn read_optional(reader: &mut Reader, end: Option<u32>) -> Result<u16, Refusal>
+    ensures same { reader.new.table ≡ reader.old.table }
+    ensures says { (b : Bound) → end_of b ≡ end → says result reader.new.at ≡ field b reader.old.table.now reader.old.at }
 {
     match end {
-        Some(end) => cursor.number(0..end),
+        Some(end) => number(reader, 0..end),
         None => Ok(0),
     }
 }
@@ -71,16 +72,16 @@ pub struct AtomRecord {
 
 #[tactic(auto, using(crate::proofs::Values::belows), unfolding(crate::specs::Table::atom))]
 fn read_atom(
-    cursor: &mut Cursor,
+    reader: &mut Reader,
     firsts: &[Option<u32>; 10],
     seconds: &[Option<u32>; 10],
 ) -> Result<AtomRecord, Refusal>
-    ensures same { cursor.new.bytes ≡ cursor.old.bytes }
-    ensures says { (h : Header) → EndsOf h firsts.now seconds.now → atom_says result cursor.new.at ≡ atom h cursor.old.bytes.now cursor.old.at }
+    ensures same { reader.new.table ≡ reader.old.table }
+    ensures says { (h : Header) → EndsOf h firsts.now seconds.now → atom_says result reader.new.at ≡ atom h reader.old.table.now reader.old.at }
 {
-    let kind = cursor.number(0..10)?;
-    let first = read_optional(cursor, firsts[usize::from(kind)])?;
-    let second = read_optional(cursor, seconds[usize::from(kind)])?;
+    let kind = number(reader, 0..10)?;
+    let first = read_optional(reader, firsts[usize::from(kind)])?;
+    let second = read_optional(reader, seconds[usize::from(kind)])?;
     Ok(AtomRecord {
         kind,
         first,
@@ -98,17 +99,17 @@ fn is_above(a: AtomRecord, b: AtomRecord) -> bool
 
 // Reads the atom records into lent room.
 #[tactic(auto, using(crate::proofs::AtomRecords::readings))]
-pub fn read_atoms(cursor: &mut Cursor, h: Header, room: &mut AtomRoom) -> Result<(), Refusal>
+pub fn read_atoms(reader: &mut Reader, h: Header, room: &mut AtomRoom) -> Result<(), Refusal>
     requires { h.sizes.atoms ≤ 1024 }
-    ensures same { cursor.new.bytes ≡ cursor.old.bytes }
-    ensures says { WroteAtoms (atoms_from h h.sizes.atoms 0 cursor.old.bytes.now cursor.old.at) room.old result cursor.new.at room.new }
+    ensures same { reader.new.table ≡ reader.old.table }
+    ensures says { WroteAtoms (atoms_from h h.sizes.atoms 0 reader.old.table.now reader.old.at) room.old result reader.new.at room.new }
 {
     let first_ends = first_ends(h);
     let second_ends = second_ends(h);
     let mut last: Option<AtomRecord> = None;
     for k in 0..usize::from(h.sizes.atoms) {
-        let start = cursor.at;
-        let a = read_atom(cursor, &first_ends, &second_ends)?;
+        let start = reader.at;
+        let a = read_atom(reader, &first_ends, &second_ends)?;
         if last.is_some_and(|b| !is_above(a, b)) {
             return Err(Refusal::NotAbove(start));
         }

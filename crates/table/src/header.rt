@@ -3,7 +3,8 @@ ghost use Rattle.std.specs.Prelude.{◌≡◌};
 ghost use Rattle.table.specs.Table.{players, sizes, header};
 ghost use Rattle.table.specs.Says.{says};
 
-use crate::cursor::Cursor;
+use crate::fields::number;
+use reader::Reader;
 use refusals::Refusal;
 
 #[derive(Clone, Copy)]
@@ -29,14 +30,14 @@ pub struct Header {
 
 // Each of these reads from a place on, and goes on to the place after what was read.
 #[tactic(auto, unfolding(crate::specs::Table::players))]
-fn read_players(cursor: &mut Cursor) -> Result<Players, Refusal>
-    ensures same { cursor.new.bytes ≡ cursor.old.bytes }
-    ensures says { says result cursor.new.at ≡ players cursor.old.bytes.now cursor.old.at }
+fn read_players(reader: &mut Reader) -> Result<Players, Refusal>
+    ensures same { reader.new.table ≡ reader.old.table }
+    ensures says { says result reader.new.at ≡ players reader.old.table.now reader.old.at }
 {
-    let _version = cursor.number(1..2)?;
-    let claim = cursor.number(0..65536)?;
-    let seats = cursor.number(1..9)?;
-    let chance = cursor.number(0..u32::from(seats) + 1)?;
+    let _version = number(reader, 1..2)?;
+    let claim = number(reader, 0..65536)?;
+    let seats = number(reader, 1..9)?;
+    let chance = number(reader, 0..u32::from(seats) + 1)?;
     Ok(Players {
         claim,
         seats,
@@ -45,14 +46,14 @@ fn read_players(cursor: &mut Cursor) -> Result<Players, Refusal>
 }
 
 #[tactic(auto, unfolding(crate::specs::Table::sizes))]
-fn read_sizes(cursor: &mut Cursor) -> Result<Sizes, Refusal>
-    ensures same { cursor.new.bytes ≡ cursor.old.bytes }
-    ensures says { says result cursor.new.at ≡ sizes cursor.old.bytes.now cursor.old.at }
+fn read_sizes(reader: &mut Reader) -> Result<Sizes, Refusal>
+    ensures same { reader.new.table ≡ reader.old.table }
+    ensures says { says result reader.new.at ≡ sizes reader.old.table.now reader.old.at }
 {
-    let fluents = cursor.number(0..513)?;
-    let moves = cursor.number(1..257)?;
-    let percepts = cursor.number(0..257)?;
-    let atoms = cursor.number(1..1025)?;
+    let fluents = number(reader, 0..513)?;
+    let moves = number(reader, 1..257)?;
+    let percepts = number(reader, 0..257)?;
+    let atoms = number(reader, 1..1025)?;
     Ok(Sizes {
         fluents,
         moves,
@@ -62,11 +63,11 @@ fn read_sizes(cursor: &mut Cursor) -> Result<Sizes, Refusal>
 }
 
 #[tactic(auto, unfolding(crate::specs::Table::header))]
-pub fn read_header(cursor: &mut Cursor) -> Result<Header, Refusal>
-    ensures same { cursor.new.bytes ≡ cursor.old.bytes }
-    ensures says { says result cursor.new.at ≡ header cursor.old.bytes.now cursor.old.at }
+pub fn read_header(reader: &mut Reader) -> Result<Header, Refusal>
+    ensures same { reader.new.table ≡ reader.old.table }
+    ensures says { says result reader.new.at ≡ header reader.old.table.now reader.old.at }
 {
-    let players = read_players(cursor)?;
-    let sizes = read_sizes(cursor)?;
+    let players = read_players(reader)?;
+    let sizes = read_sizes(reader)?;
     Ok(Header { players, sizes })
 }

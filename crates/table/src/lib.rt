@@ -1,7 +1,7 @@
 // The format of a table: from bytes to arrays, or the first fault in reading order.
 #![tactic(auto)]
 
-pub mod cursor; // a place in the bytes, and a number within its range
+pub mod fields; // a number within its range
 pub mod atoms;
 pub mod clauses;
 pub mod header;

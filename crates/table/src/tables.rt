@@ -5,8 +5,9 @@ ghost use Rattle.table.specs.Says.{WroteRest, WroteGame, WroteTable, blank_array
 
 use crate::atoms::read_atoms;
 use crate::clauses::read_clauses;
-use crate::cursor::Cursor;
+use crate::fields::number;
 use crate::header::{Header, read_header};
+use reader::Reader;
 use refusals::Refusal;
 
 // The rooms hold arrays side by side, since `AtomsLaid` and `ClausesLaid` of specs/Says.antt say of each what it holds; their sizes are
@@ -63,24 +64,24 @@ pub struct Read {
 
 // The count of clauses, the clauses, and nothing after, into lent room; the answer is the count.
 #[tactic(auto, using(crate::proofs::Values::belows), unfolding(crate::specs::Table::clauses))]
-fn read_rest(cursor: &mut Cursor, atoms: u16, room: &mut ClauseRoom) -> Result<u16, Refusal>
-    ensures { WroteRest (clauses atoms cursor.old.bytes.now cursor.old.at) room.old result room.new }
+fn read_rest(reader: &mut Reader, atoms: u16, room: &mut ClauseRoom) -> Result<u16, Refusal>
+    ensures { WroteRest (clauses atoms reader.old.table.now reader.old.at) room.old result room.new }
 {
-    let many = cursor.number(0..2049)?;
-    read_clauses(cursor, many, atoms, room)?;
-    if cursor.at < cursor.bytes.len() {
-        return Err(Refusal::BytesAfter(cursor.at));
+    let many = number(reader, 0..2049)?;
+    read_clauses(reader, many, atoms, room)?;
+    if reader.at < reader.table.len() {
+        return Err(Refusal::BytesAfter(reader.at));
     }
     Ok(many)
 }
 
 // The atoms and the clauses of a table whose header was read, into lent arrays; the answer is the count of clauses.
-fn read_game(cursor: &mut Cursor, h: Header, arrays: &mut Arrays) -> Result<u16, Refusal>
+fn read_game(reader: &mut Reader, h: Header, arrays: &mut Arrays) -> Result<u16, Refusal>
     requires { h.sizes.atoms ≤ 1024 }
-    ensures { WroteGame (game h cursor.old.bytes.now cursor.old.at) h result arrays.old arrays.new }
+    ensures { WroteGame (game h reader.old.table.now reader.old.at) h result arrays.old arrays.new }
 {
-    read_atoms(cursor, h, &mut arrays.atoms)?;
-    read_rest(cursor, h.sizes.atoms, &mut arrays.clauses)
+    read_atoms(reader, h, &mut arrays.atoms)?;
+    read_rest(reader, h.sizes.atoms, &mut arrays.clauses)
 }
 
 // The table that the bytes hold, or the first fault in reading order, into lent arrays, since 46 KB would be copied at each answer.
@@ -92,8 +93,8 @@ pub fn read_table(s: &[u8], arrays: &mut Arrays) -> Result<Read, Refusal>
     if 65535 < s.len() {
         return Err(Refusal::TableTooLong);
     }
-    let mut cursor = Cursor { bytes: s, at: 0 };
-    let header = read_header(&mut cursor)?;
-    let clauses = read_game(&mut cursor, header, arrays)?;
+    let mut reader = Reader::start(s, 0);
+    let header = read_header(&mut reader)?;
+    let clauses = read_game(&mut reader, header, arrays)?;
     Ok(Read { header, clauses })
 }

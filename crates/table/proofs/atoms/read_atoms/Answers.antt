@@ -15,7 +15,7 @@ returns-in_err-a-clause-says c =
 pub returns-then-is_some_and-clause-says : goal.returns-then-is_some_and-clause-says
 returns-then-is_some_and-clause-says c =
     let read = c.in_ok-a.ensures.says c.args.h (both_ends c.args.h _ _ c.first_ends-first_ends.ensures c.second_ends-second_ends.ensures) in
-    reading_low c.loop-k.invariant (omega arith) c.read_atom.new.cursor read (search rules)
+    reading_low c.loop-k.invariant (omega arith) c.read_atom.new.reader read (search rules)
 
 pub returns-clause-says : goal.returns-clause-says
 returns-clause-says c = reading_done c.loop-k.invariant (omega arith)

@@ -15,12 +15,12 @@ returns-in_err-c-clause-says c =
 
 pub slice_bounds-fill-end : goal.slice_bounds-fill-end
 slice_bounds-fill-end c =
-    let f = few c.loop-k.invariant (omega arith) _ c.read_clause.new.cursor _ c.in_ok-c.ensures.says in
+    let f = few c.loop-k.invariant (omega arith) _ c.read_clause.new.reader _ c.in_ok-c.ensures.says in
     search (rules, f)
 
 pub loop-k-preserved : goal.loop-k-preserved
 loop-k-preserved c =
-    laying_more c.loop-k.invariant (omega arith) _ c.read_clause.new.cursor _ c.in_ok-c.ensures.says _ _ _ c.read_clause.ensures.same c.from-count.ensures (omega arith) (c.fill.ensures.after λ _ e. e)
+    laying_more c.loop-k.invariant (omega arith) _ c.read_clause.new.reader _ c.in_ok-c.ensures.says _ _ _ c.read_clause.ensures.same c.from-count.ensures (omega arith) (c.fill.ensures.after λ _ e. e)
 
 pub returns-clause-says : goal.returns-clause-says
 returns-clause-says c = rw c.from-n.ensures (laying_done c.loop-k.invariant (omega arith))

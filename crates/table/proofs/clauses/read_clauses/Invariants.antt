@@ -3,4 +3,4 @@ use Rattle.table.proofs.ClauseRecords.{Laying}
 use Rattle.table.proofs.clauses.read_clauses.Given as goal
 
 abbrev pub invariant-loop-k : goal.invariant-loop-k
-invariant-loop-k l = Laying l.fn.many l.fn.atoms l.initial.cursor l.initial.room l.room l.used l.k l.cursor
+invariant-loop-k l = Laying l.fn.many l.fn.atoms l.initial.reader l.initial.room l.room l.used l.k l.reader
