@@ -21,7 +21,7 @@ fn visit(edges: &Edges, work: &mut Worklist, at: usize)
 }
 
 // Marks, with the marked nodes, which stand below `size`, every node that depends on one. A node is queued when it is marked first: at most 1,024 turns,
-// and each edge is followed in at most one of them.
+// and each edge is followed in at most one of them. `size` stands beside the marks, since memory is fixed: they are 1,024 however many nodes there are.
 pub fn close_back(edges: &Edges, marks: &mut [u8; 1024], size: usize)
     requires { Seeded marks.old size }
     ensures { ClosedBack edges.now.from.now edges.now.to.now marks.old marks.new }

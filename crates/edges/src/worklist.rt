@@ -37,7 +37,7 @@ impl Worklist {
         self.many += 1;
     }
 
-    // Queues all marked nodes. They stand below `size`.
+    // Queues all marked nodes. They stand below `size`, which is beside the marks since these are of a fixed size.
     pub(super) fn gather(&mut self, size: usize)
         requires { Ungathered self.old size }
         ensures { Gathered self.old.marks self.new size }

@@ -1,4 +1,5 @@
-// The rules of a valid table on arrays: the first refusal of 6 to 12, or the levels of the atoms.
+// The rules of a valid table on arrays: the first refusal of 6 to 12, or the levels of the atoms. The atoms and the clauses travel as two: each rule asks
+// another part of them to be shaped (heads, bodies, roles or edges), and a struct with one fact would ask all of it of every rule.
 #![tactic(auto)]
 
 ghost use Rattle.std.specs.Prelude.{◌≡◌};
@@ -89,7 +90,8 @@ fn judge_last(
 }
 
 // The arrays of a table that was read: the first rule that is broken, at the lowest place; or the first number above the levels of the atoms, which are
-// the least and stand in lent room. `owners` are the heads of the literals' clauses.
+// the least and stand in lent room. `owners` are the heads of the literals' clauses. The levels come blank, since `Judges` promises that they are so after a
+// refusal: most refusals then write none.
 pub fn judge_arrays(
     atoms: &AtomArrays,
     clauses: &ClauseArrays,

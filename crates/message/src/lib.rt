@@ -7,7 +7,7 @@ ghost use Rattle.numbers.specs.Writing.{written};
 ghost use Rattle.gdl.specs.Lists.{those};
 ghost use Rattle.message.specs.Message.{counted, head_numbers, message_of, Fits};
 
-// How many of the flags are 1.
+// How many of the flags are 1. At most 256 of them, here and in the two functions below: a slice's length is no type.
 #[tactic(auto, using(crate::proofs::Lists::counted_ones))]
 fn count_those(flags: &[u8]) -> u16
     requires { length flags.now ≤ 256 }

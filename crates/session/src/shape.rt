@@ -41,7 +41,8 @@ impl Grid {
         x == 0 || x == 1 && self.holds(i)
     }
 
-    // How many flags from place i on were found to fit: 64 where a run of them is 0, which is nearly everywhere, else one, or none.
+    // How many flags from place i on were found to fit: 64 where a run of them is 0, which is nearly everywhere, else one, or none. A count, since
+    // `Fitting` says all three cases by one number: an Option would say the last apart, no plainer.
     fn fitting(self, flags: &[u8], i: usize) -> usize
         requires { i < length flags.now }
         ensures { Fitting (flag_fits (in_grid self.width self.rows self.columns)) flags.now i result }

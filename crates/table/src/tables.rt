@@ -36,7 +36,7 @@ pub struct Arrays {
     pub clauses: ClauseRoom,
 }
 
-// Arrays to read into.
+// Arrays to read into, answered once a call.
 pub fn blank_arrays() -> Arrays
     ensures { result ≡ blank_arrays }
 {
@@ -84,8 +84,8 @@ fn read_game(reader: &mut Reader, h: Header, arrays: &mut Arrays) -> Result<u16,
     read_rest(reader, h.sizes.atoms, &mut arrays.clauses)
 }
 
-// The table that the bytes hold, or the first fault in reading order, into lent arrays, since 46 KB would be copied at each answer.
-// Later places stay as they are.
+// The table that the bytes hold, or the first fault in reading order, into lent arrays: they are made once a call (`blank_arrays`), and no function that
+// reads answers their 46 KB again. Later places stay as they are.
 #[tactic(auto, using(crate::proofs::Whole::table_laws, crate::proofs::Values::belows), unfolding(crate::specs::Table::table))]
 pub fn read_table(s: &[u8], arrays: &mut Arrays) -> Result<Read, Refusal>
     ensures { WroteTable (table s.now 0) result arrays.old arrays.new }
