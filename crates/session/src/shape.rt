@@ -88,10 +88,7 @@ fn run_unset(flags: &[u8], i: usize) -> bool
     requires { i < length flags.now }
     ensures { RunIf flags.now i result }
 {
-    if i % 64 != 0 || flags.len() - i < 64 {
-        return false;
-    }
-    highest(&flags[i..i + 64]) == 0
+    i % 64 == 0 && 64 <= flags.len() - i && highest(&flags[i..i + 64]) == 0
 }
 
 // Whether a choice is none, or one more than a move below M of a seat below R.

@@ -87,12 +87,11 @@ pub fn consult<'s>(
     let mut arrays = blank_arrays();
     let mut levels = [0; 1024];
     let weighed = weigh(s, &mut arrays, &mut levels)?;
-    let header = weighed.read.header;
-    let atoms = used_atoms(&arrays.atoms, header.sizes.atoms);
+    let atoms = used_atoms(&arrays.atoms, weighed.read.header.sizes.atoms);
     let clauses = used_clauses(&arrays.clauses, weighed.read.clauses);
     let flags = truth::model_of(position, choices, &atoms, &clauses, &levels, weighed.top);
     Ok(Learnt {
-        header,
+        header: weighed.read.header,
         atoms: arrays.atoms,
         flags,
     })
@@ -125,12 +124,11 @@ pub fn trace(s: &[u8], seat: u16) -> Result<Learnt, Refusal>
     let mut arrays = blank_arrays();
     let mut levels = [0; 1024];
     let weighed = weigh(s, &mut arrays, &mut levels)?;
-    let header = weighed.read.header;
-    let atoms = used_atoms(&arrays.atoms, header.sizes.atoms);
+    let atoms = used_atoms(&arrays.atoms, weighed.read.header.sizes.atoms);
     let clauses = used_clauses(&arrays.clauses, weighed.read.clauses);
     let flags = reach::reach_of(&atoms, &clauses, seat);
     Ok(Learnt {
-        header,
+        header: weighed.read.header,
         atoms: arrays.atoms,
         flags,
     })

@@ -3,5 +3,5 @@ use borrow.Author.Rules.{rules}
 use Rattle.session.proofs.Fits.{runs}
 use Rattle.session.proofs.shape.run_unset.Goals as goal
 
-pub returns : goal.returns
-returns c = search (rules, runs)
+pub returns-then-flags-i-ge64 : goal.returns-then-flags-i-ge64
+returns-then-flags-i-ge64 c = search (rules, runs)
