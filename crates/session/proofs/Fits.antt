@@ -77,18 +77,14 @@ module _ (l : List ℕ) (i : ℕ) where
     pub fits_run : (r : Bool) → RunIf l i r → r ≡ true → Fitting (flag_fits (in_grid width rows columns)) l i 64
     fits_run r w e =
         let u : Run l i = rw e at w in
-        record { within = u.within; pass = λ j ge lt. sym (unset (get_or l j 0) j width rows columns (u.unset j ge lt)); stuck = λ z. absurd (omega arith) }
+        record { some = omega arith; within = u.within; pass = λ j ge lt. sym (unset (get_or l j 0) j width rows columns (u.unset j ge lt)) }
 
     module _ (lt : i < length l) (r : Bool) (e : r ≡ flag_fits (in_grid width rows columns) i (get_or l i 0)) where
       pub fits_one : r ≡ true → Fitting (flag_fits (in_grid width rows columns)) l i 1
-      fits_one t = record {
-        within = omega arith;
-        pass = λ j ge le. let q : j ≡ i = omega arith in rw q (sym e ∙ t);
-        stuck = λ z. absurd (omega arith);
-      }
+      fits_one t = record { some = omega arith; within = omega arith; pass = λ j ge le. let q : j ≡ i = omega arith in rw q (sym e ∙ t) }
 
-      pub fits_none : r ≡ false → Fitting (flag_fits (in_grid width rows columns)) l i 0
-      fits_none t = record { within = omega arith; pass = λ j ge le. absurd (omega arith); stuck = λ _. sym e ∙ t }
+      pub fits_none : r ≡ false → flag_fits (in_grid width rows columns) i (get_or l i 0) ≡ false
+      fits_none t = sym e ∙ t
 
 pub ruleset runs = (run_by, fits_run, fits_one, fits_none)
 

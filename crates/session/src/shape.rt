@@ -3,7 +3,7 @@ ghost use Rattle.std.specs.Prelude.{◌≡◌, ◌<◌, ◌≤◌, length};
 ghost use Rattle.gdl.specs.Lists.{every};
 ghost use Rattle.gdl.specs.Game.{Game};
 ghost use Rattle.session.specs.Shape.{flag_fits, below, in_grid, choice_within, shaped, limits_of};
-ghost use Rattle.session.specs.Runs.{Bounds, RunIf, Fitting};
+ghost use Rattle.session.specs.Runs.{Bounds, RunIf, FittingIf};
 
 use crate::Session;
 
@@ -41,18 +41,17 @@ impl Grid {
         x == 0 || x == 1 && self.holds(i)
     }
 
-    // How many flags from place i on were found to fit: 64 where a run of them is 0, which is nearly everywhere, else one, or none. A count, since
-    // `Fitting` says all three cases by one number: an Option would say the last apart, no plainer.
-    fn fitting(self, flags: &[u8], i: usize) -> usize
+    // How many flags from place i on were found to fit: 64 where a run of them is 0, which is nearly everywhere, else one. None if that one does not.
+    fn fitting(self, flags: &[u8], i: usize) -> Option<usize>
         requires { i < length flags.now }
-        ensures { Fitting (flag_fits (in_grid self.width self.rows self.columns)) flags.now i result }
+        ensures { FittingIf (flag_fits (in_grid self.width self.rows self.columns)) flags.now i result }
     {
         if run_unset(flags, i) {
-            64
+            Some(64)
         } else if self.flag_fits(flags[i], i) {
-            1
+            Some(1)
         } else {
-            0
+            None
         }
     }
 
@@ -62,11 +61,10 @@ impl Grid {
     {
         let mut i: usize = 0;
         while i < flags.len() {
-            let n = self.fitting(flags, i);
-            if n == 0 {
-                return false;
+            match self.fitting(flags, i) {
+                Some(n) => i += n,
+                None => return false,
             }
-            i += n;
         }
         true
     }
