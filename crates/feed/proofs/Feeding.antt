@@ -17,7 +17,7 @@ use Rattle.feed.specs.Feed.{until_end}
 abbrev pub IsFirstEnd : List ℕ → Option ℕ → Type 0
 IsFirstEnd xs r = MatchOption r (AllWithin (λ (x : ℕ). x ≡ 10 → ⊥) xs 0 (length xs)) (λ i. (i < length xs) × HoldsAt (λ (x : ℕ). x ≡ 10) xs i × AllWithin (λ (x : ℕ). x ≡ 10 → ⊥) xs 0 i)
 
-until_first : (xs : List ℕ) (r : Option ℕ) → IsFirstEnd xs r → until_end xs ≡ unwrap_or r (length xs)
+pub until_first : (xs : List ℕ) (r : Option ℕ) → IsFirstEnd xs r → until_end xs ≡ unwrap_or r (length xs)
 until_first xs r first = index_from_first until_end (λ (x : ℕ). x ≡ 10) (λ (x : ℕ). x ≡ 10 → ⊥) refl hit miss xs r first
   where
     hit : (b : ℕ) (bs : List ℕ) → b ≡ 10 → until_end (b ∷ bs) ≡ 0
@@ -27,16 +27,10 @@ until_first xs r first = index_from_first until_end (λ (x : ℕ). x ≡ 10) (λ
     miss b bs e = rw (ne_eqb b 10 e) (omega arith)
 
 module _ (room : List ℕ) (start have : ℕ) (fits : (start ≤ have) × (have ≤ length room)) where
-  pub the_slice : take (have - start) (drop start room) ≡ slice start have room
+  the_slice : take (have - start) (drop start room) ≡ slice start have room
   the_slice = let e : start + (have - start) ≡ have = omega arith in sym (drop-take start (have - start) room) ∙ ap (λ n. drop start (take n room)) e
 
   pub fronted : paste room 0 (drop start room) (have - start) ≡ sets room 0 (slice start have room)
   fronted =
       let n : length (slice start have room) ≡ have - start = length-slice start have room fits.1 in
       sym (sets-eq (slice start have room) room 0 (omega (arith, n)) ∙ rw (n, ← the_slice) refl)
-
-  pub first_end : (r : Option ℕ) (e : ℕ) → e ≡ unwrap_or r (have - start) → IsFirstEnd (take (have - start) (drop start room)) r → start + e ≡ start + until_end (slice start have room)
-  first_end r e u first =
-      let n : length (take (have - start) (drop start room)) ≡ have - start = ap length the_slice ∙ length-slice start have room fits.1 in
-      let k : unwrap_or r (length (take (have - start) (drop start room))) ≡ unwrap_or r (have - start) = ap (unwrap_or r) n in
-      ap (λ m. start + m) (u ∙ sym k ∙ sym (until_first (take (have - start) (drop start room)) r first) ∙ ap until_end the_slice)

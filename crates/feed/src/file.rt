@@ -54,10 +54,7 @@ fn read_whole<R: Read>(reader: &mut R, room: &mut [u8]) -> io::Result<usize>
 fn fill(bytes: &[u8], room: &mut [u8]) -> Result<usize, LoadFault>
     ensures { (result, room.new) ≡ filled bytes.now room.old }
 {
-    if 70000 < bytes.len() {
-        return Err(LoadFault::TooMany);
-    }
-    if room.len() < bytes.len() {
+    if 70000 < bytes.len() || room.len() < bytes.len() {
         return Err(LoadFault::TooMany);
     }
     put_text(room, 0, bytes);

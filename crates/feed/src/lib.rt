@@ -4,7 +4,7 @@
 pub mod file; // a file read whole
 mod reading; // one read from a reader
 
-ghost use Rattle.std.specs.Prelude.{ℕ, ◌+◌, ◌-◌, ◌≤◌, ◌≡◌, length};
+ghost use Rattle.std.specs.Prelude.{ℕ, ◌-◌, ◌≤◌, ◌<◌, ◌≡◌, length, unwrap_or, IfSome};
 ghost use Rattle.std.proofs.lemmas.List.Edits.{sets};
 ghost use Rattle.std.proofs.Math.Seq.{slice};
 ghost use Rattle.feed.specs.Feed.{Held, until_end, told, told_last, seeking, new_feed, behind};
@@ -12,6 +12,7 @@ ghost use Rattle.feed.specs.Feed.{Held, until_end, told, told_last, seeking, new
 use reading::read_more;
 use std::io::Read;
 
+// Four outcomes that the programs tell apart, so no `Option`: `told` and `told_last` of specs/Feed name them.
 #[derive(Clone, Copy, PartialEq, Eq, Debug)]
 pub enum Found {
     Line,
@@ -21,7 +22,7 @@ pub enum Found {
 }
 
 // Up to `have` the room was read. A line that was found lies from `start` to `end`; one that was not begins at `start` and has no end
-// before `end`, and `long` says that its beginning was dropped.
+// before `end`, and `long` says that its beginning was dropped. `Held` and `told` of specs/Feed are said of these fields, found or not.
 #[derive(Clone, Copy)]
 pub struct Feed {
     pub found: Found,
@@ -51,17 +52,15 @@ pub fn new_feed() -> Feed
     seeking(0, 0)
 }
 
-// The place of the first line end, or `have` where there is none.
-fn line_end(room: &[u8], from: usize, have: usize) -> usize
-    requires { (from ≤ have) × (have ≤ length room.now) }
-    ensures value { result ≡ from + until_end (slice from have room.now) }
-    ensures lower_bound { (from ≤ result) × (result ≤ have) }
+// How many bytes stand before the first line end, if there is one.
+fn line_end(bytes: &[u8]) -> Option<usize>
+    ensures value { unwrap_or result (length bytes.now) ≡ until_end bytes.now }
+    ensures within { IfSome result (λ end. end < length bytes.now) }
 {
-    let end = room[from..have].iter().position(|b| *b == b'\n');
-    from + end.unwrap_or(have - from)
+    bytes.iter().position(|b| *b == b'\n')
 }
 
-// Moves what stands from `start` up to `have` to the front, and answers how much it is.
+// Moves what stands from `start` up to `have` to the front, and answers how much it is. Beside `copy_within` it has a contract, which says what stands there then.
 fn to_front(room: &mut [u8], start: usize, have: usize) -> usize
     requires { (start ≤ have) × (have ≤ length room.old) }
     ensures value { result ≡ have - start }
@@ -93,11 +92,10 @@ fn step<R: Read>(reader: &mut R, room: &mut [u8], feed: Feed) -> Feed
     requires { Held (length room.old) feed }
     ensures { Held (length room.old) result }
 {
-    let end = line_end(room, feed.end, feed.have);
-    if end < feed.have {
+    if let Some(end) = line_end(&room[feed.end..feed.have]) {
         return Feed {
             found: told(feed.long),
-            end,
+            end: feed.end + end,
             long: false,
             ..feed
         };
