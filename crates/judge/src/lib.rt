@@ -90,8 +90,7 @@ fn judge_last(
 }
 
 // The arrays of a table that was read: the first rule that is broken, at the lowest place; or the first number above the levels of the atoms, which are
-// the least and stand in lent room. `owners` are the heads of the literals' clauses. The levels come blank, since `Judges` promises that they are so after a
-// refusal: most refusals then write none.
+// the least and stand in lent room. `owners` are the heads of the literals' clauses.
 pub fn judge_arrays(
     atoms: &AtomArrays,
     clauses: &ClauseArrays,
@@ -99,9 +98,10 @@ pub fn judge_arrays(
     seats: usize,
     levels: &mut [u16; 1024],
 ) -> Result<u16, Refusal>
-    requires { HoldsGame atoms.now clauses.now owners.now seats × (levels.old ≡ blank 1024) }
+    requires { HoldsGame atoms.now clauses.now owners.now seats }
     ensures { Judges (Held atoms.now clauses.now owners.now seats) Ruled result levels.new }
 {
+    *levels = [0; 1024];
     judge_heads(atoms, clauses)?;
     // The index of the uses, made once and lent from here on. An array that a function answers would be copied, and so is a literal of anything but
     // zeros.

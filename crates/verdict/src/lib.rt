@@ -2,7 +2,7 @@
 #![tactic(auto)]
 
 ghost use Rattle.std.specs.Prelude.{◌≡◌, List, ℕ, ◌≤◌, length, get_or};
-ghost use Rattle.gdl.specs.Flags.{blank, on};
+ghost use Rattle.gdl.specs.Flags.{on};
 ghost use Rattle.gdl.specs.Game.{Game};
 ghost use Rattle.gdl.specs.Kinds.{kind_number};
 ghost use Rattle.gdl.specs.Computed.{model, reach_of};
@@ -55,7 +55,7 @@ struct Weighed {
 
 // Reads a table into lent arrays and judges it. Every call begins so.
 fn weigh(s: &[u8], arrays: &mut Arrays, levels: &mut [u16; 1024]) -> Result<Weighed, Refusal>
-    requires { (arrays.old ≡ blank_arrays) × (levels.old ≡ blank 1024) }
+    requires { arrays.old ≡ blank_arrays }
     ensures { Weighs (judge s.now) result arrays.new levels.new }
 {
     let read = read_table(s, arrays)?;
