@@ -17,7 +17,7 @@ use session::Session;
 use session::bytes::blank_session;
 use std::rt::Files;
 
-// How much of the table's room is the current table, and the current record.
+// How much of the table's room is the current table, and the current record: the room is lent, fixed memory, so its length stands here.
 #[derive(Clone, Copy)]
 pub struct Desk {
     pub table: usize,
@@ -54,10 +54,7 @@ fn taken(desk: Desk, table: usize, room: &mut [u8]) -> Answered
 {
     let length = put_ok(room, table);
     Answered {
-        desk: Desk {
-            table,
-            session: desk.session,
-        },
+        desk: Desk { table, ..desk },
         length,
     }
 }
@@ -68,8 +65,8 @@ fn turned(desk: Desk, turned: Turned) -> Answered
 {
     Answered {
         desk: Desk {
-            table: desk.table,
             session: turned.session,
+            ..desk
         },
         length: turned.length,
     }
@@ -88,16 +85,14 @@ fn command_in(line: &[u8]) -> Result<Command, Fault>
     };
     let (fewest, most) = words_behind(command);
     let words = count_words(line);
-    if words <= fewest {
-        return Err(Fault::Words);
-    }
-    if most < words - 1 {
+    if words <= fewest || most < words - 1 {
         return Err(Fault::Words);
     }
     Ok(command)
 }
 
 // The answer to a command whose words are as many as they are to be, or what is wrong with them.
+// Files, table, desk and room go on one by one here, as in `answer`, whose form docs/PROMISES.md names.
 #[tactic(auto, using(crate::proofs::Answering::answerings))]
 fn answer_command<F: Files>(
     files: &F,
@@ -109,26 +104,33 @@ fn answer_command<F: Files>(
 ) -> Result<Answered, Fault>
     ensures { AnswersOr (Meant line.now command table.old desk) desk room.old result table.new room.new }
 {
-    let session = desk.session;
-    let size = desk.table;
     match command {
         Command::Table => Ok(taken(desk, set_table(word(line, 1), table)?, room)),
         Command::Load => Ok(taken(desk, load_table(files, word(line, 1), table)?, room)),
-        Command::Check => Ok(said(desk, looks::check(first_bytes(table, size), room))),
-        Command::Claim => Ok(said(desk, looks::claim(first_bytes(table, size), room))),
-        Command::Open => Ok(turned(desk, records::open(first_bytes(table, size), room))),
+        Command::Check => Ok(said(desk, looks::check(first_bytes(table, desk.table), room))),
+        Command::Claim => Ok(said(desk, looks::claim(first_bytes(table, desk.table), room))),
+        Command::Open => Ok(turned(desk, records::open(first_bytes(table, desk.table), room))),
         Command::Offer => Ok(turned(
             desk,
-            records::offer(line, first_bytes(table, size), session, room)?,
+            records::offer(line, first_bytes(table, desk.table), desk.session, room)?,
         )),
-        Command::Play => Ok(turned(desk, records::play(first_bytes(table, size), session, room))),
+        Command::Play => Ok(turned(
+            desk,
+            records::play(first_bytes(table, desk.table), desk.session, room),
+        )),
         Command::Message => Ok(said(
             desk,
-            looks::message(line, first_bytes(table, size), session, room)?,
+            looks::message(line, first_bytes(table, desk.table), desk.session, room)?,
         )),
-        Command::Hidden => Ok(said(desk, looks::hidden(line, first_bytes(table, size), room)?)),
-        Command::Model => Ok(said(desk, looks::model(line, first_bytes(table, size), room)?)),
-        Command::Record => Ok(turned(desk, records::record(line, session, room)?)),
+        Command::Hidden => Ok(said(
+            desk,
+            looks::hidden(line, first_bytes(table, desk.table), room)?,
+        )),
+        Command::Model => Ok(said(
+            desk,
+            looks::model(line, first_bytes(table, desk.table), room)?,
+        )),
+        Command::Record => Ok(turned(desk, records::record(line, desk.session, room)?)),
         Command::Help => Ok(said(desk, put_help(room))),
     }
 }

@@ -1,4 +1,4 @@
--- Each arm is one row of the protocol.
+-- Each arm is one row of the protocol. Tried: with `using` at the function alone these goals stay open.
 use borrow.Author.Rules.{rules}
 use Rattle.interpreter.proofs.Answering.{answerings, answers_message, answers_hidden, answers_model, answers_offer, answers_record}
 use Rattle.interpreter.proofs.desk.answer_command.Goals as goal

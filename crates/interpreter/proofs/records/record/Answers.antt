@@ -1,4 +1,4 @@
--- The number of words decides which is meant.
+-- The number of words decides which is meant. Tried: with `using` at the function alone these goals stay open.
 use borrow.Author.Rules.{rules}
 use Rattle.interpreter.proofs.Turning.{turnings}
 use Rattle.interpreter.proofs.records.record.Goals as goal

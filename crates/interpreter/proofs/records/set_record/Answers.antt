@@ -1,4 +1,4 @@
--- Each arm is one case of the reading.
+-- Each arm is one case of the reading. Tried: with `using` at the function alone these goals stay open.
 use borrow.Author.Rules.{rules}
 use Rattle.interpreter.proofs.Turning.{turnings}
 use Rattle.interpreter.proofs.records.set_record.Goals as goal
