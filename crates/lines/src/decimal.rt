@@ -61,6 +61,7 @@ fn last_digit(x: u64) -> u8
 }
 
 // Writes the digits of a number at the end of twenty bytes, and answers where they begin.
+#[tactic(auto, using(crate::proofs::Spelling::spellings, crate::proofs::Spelling::not_first))]
 fn spell(x: u64, digits: &mut [u8; 20]) -> usize
     ensures { Digits x result digits.new }
 {
@@ -76,6 +77,7 @@ fn spell(x: u64, digits: &mut [u8; 20]) -> usize
 }
 
 // Puts a number at a place of the room, and answers the place after it, as `put_text` does.
+#[tactic(auto, using(crate::proofs::Spelling::put_digits))]
 pub fn put_decimal(room: &mut [u8], at: usize, x: u64) -> usize
     ensures { (result, room.new) ≡ written_at (decimal_text x) at room.old }
 {
