@@ -60,7 +60,8 @@ fn line_end(bytes: &[u8]) -> Option<usize>
     bytes.iter().position(|b| *b == b'\n')
 }
 
-// Moves what stands from `start` up to `have` to the front, and answers how much it is. Beside `copy_within` it has a contract, which says what stands there then.
+// Moves what stands from `start` up to `have` to the front, and answers how much it is.
+// It stays beside `copy_within`: what may not change, its clause `room_after` says what stands in the room then.
 fn to_front(room: &mut [u8], start: usize, have: usize) -> usize
     requires { (start ≤ have) × (have ≤ length room.old) }
     ensures value { result ≡ have - start }
