@@ -1,4 +1,4 @@
-// Bytes copied from a part into lent room: messages, records and lines are all put together so.
+// Bytes copied from a part into lent room: the lines of the protocol are put together so.
 ghost use Rattle.std.specs.Prelude.{◌≡◌, ◌+◌, ◌≤◌, length};
 ghost use Rattle.std.proofs.lemmas.List.Edits.{sets};
 
