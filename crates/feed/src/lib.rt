@@ -12,7 +12,8 @@ ghost use Rattle.feed.specs.Feed.{Held, until_end, told, told_last, seeking, new
 use reading::read_more;
 use std::io::Read;
 
-// Four outcomes that the programs tell apart, so no `Option`: `told` and `told_last` of specs/Feed name them.
+// A line, a line too long, the end, or not yet known: `told` and `told_last` of specs/Feed answer these, and an Option with an enum inside would be no
+// plainer.
 #[derive(Clone, Copy, PartialEq, Eq, Debug)]
 pub enum Found {
     Line,
@@ -61,7 +62,7 @@ fn line_end(bytes: &[u8]) -> Option<usize>
 }
 
 // Moves what stands from `start` up to `have` to the front, and answers how much it is.
-// It stays beside `copy_within`: what may not change, its clause `room_after` says what stands in the room then.
+// A function of its own beside `copy_within`: its clauses say what the room holds then, which `step` would else have to say itself.
 fn to_front(room: &mut [u8], start: usize, have: usize) -> usize
     requires { (start ≤ have) × (have ≤ length room.old) }
     ensures value { result ≡ have - start }

@@ -41,7 +41,7 @@ pub fn new_desk() -> Desk
     }
 }
 
-// An answer that changes nothing.
+// An answer that changes nothing. This and the two below stay three: each makes the desk from another outcome.
 fn said(desk: Desk, length: usize) -> Answered
     ensures { result ≡ with_length desk length }
 {
@@ -92,7 +92,8 @@ fn command_in(line: &[u8]) -> Result<Command, Fault>
 }
 
 // The answer to a command whose words are as many as they are to be, or what is wrong with them.
-// Files, table, desk and room go on one by one here, as in `answer`, whose form docs/PROMISES.md names.
+// Files, table, desk and room go on one by one, here and below: table and room are lent to be changed, the desk goes by value, and `Answers` says of each
+// what becomes of it, so a struct would be no plainer.
 #[tactic(auto, using(crate::proofs::Answering::answerings))]
 fn answer_command<F: Files>(
     files: &F,
@@ -166,7 +167,7 @@ pub fn answer<F: Files>(
     }
 }
 
-// The answer to what a feed has found in its room.
+// The answer to what a feed has found in its room: the two go together, since `Held` is of the feed and the room's length.
 #[tactic(auto, using(crate::proofs::Answering::linings))]
 pub fn answer_found<F: Files>(
     files: &F,

@@ -105,7 +105,7 @@ fn put_model(table: &[u8], placed: &Placed, lent: &mut [u8], room: &mut [u8]) ->
     put_bytes(room, at, first_bytes(lent, many))
 }
 
-// The same with so many bytes lent.
+// The same with so many bytes lent, 255 in each: `no_flags` of specs/Looks.antt.
 fn lend_model(table: &[u8], placed: &Placed, many: u16, room: &mut [u8]) -> usize
     ensures { Says (ModelTold (judge table.now) placed.now.position placed.now.choices (no_flags many)) room.old (result, room.new) }
 {

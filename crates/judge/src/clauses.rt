@@ -74,7 +74,7 @@ fn never_in_body(atoms: &AtomArrays, clauses: &ClauseArrays, i: usize) -> bool
     )
 }
 
-// Whether an atom never stands in a body and has a use: its first one is a literal of so many.
+// Whether an atom, of a kind by number (see `gdl::kinds::Kind`), never stands in a body and has a use: its first one is a literal of so many.
 fn misused(kind: u16, first: u16, many: usize) -> bool
     ensures { result ≡ (ltb first many && one_of (init_kind ∷ next_kind ∷ sees_kind ∷ []) kind) }
 {

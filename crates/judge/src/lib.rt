@@ -103,8 +103,7 @@ pub fn judge_arrays(
 {
     *levels = [0; 1024];
     judge_heads(atoms, clauses)?;
-    // The index of the uses, made once and lent from here on. An array that a function answers would be copied, and so is a literal of anything but
-    // zeros.
+    // The index of the uses, made here and lent from here on; filled afterwards, since a literal of anything but zeros is copied at this size.
     let mut uses = Uses {
         first: [0; 1024],
         next: [0; 8192],

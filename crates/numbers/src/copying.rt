@@ -2,7 +2,7 @@
 ghost use Rattle.std.specs.Prelude.{◌≡◌, ◌+◌, ◌≤◌, length};
 ghost use Rattle.std.proofs.lemmas.List.Edits.{sets};
 
-// Copies a part into a room, from a place on: docs/DECISIONS.md names it, and must-fail edits are on it.
+// Copies a part into a room, from a place on. A function of its own beside `copy_from_slice`: its clause says what the whole room holds then.
 #[tactic(auto, using(crate::proofs::Storing::stores))]
 pub fn copy(part: &[u8], room: &mut [u8], at: usize)
     requires { at + length part.now ≤ length room.old }

@@ -9,6 +9,7 @@ use edges::worklist::Worklist;
 use gdl::arrays::AtomArrays;
 use gdl::kinds::Kind;
 
+// Whether a kind is next or init: by number, as the arrays hold kinds (see `gdl::kinds::Kind`).
 fn is_onward(kind: u16) -> bool
     ensures { result ≡ is_onward kind }
 {

@@ -1,4 +1,4 @@
--- A statement of the reader: what reading at a place comes to, one read, and two one after the other. The check needs neither, but docs/PORT.md names both.
+-- A statement of the reader: what reading at a place comes to, one read, and two one after the other.
 use mathlib.Core.Path.{◌≡◌, refl, ap, ◌∙◌}
 use mathlib.Core.List.{List}
 use Prim.Native.Nat.{ℕ}

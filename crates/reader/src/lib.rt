@@ -12,7 +12,7 @@ pub struct Reader<'a> {
     pub at: usize,
 }
 
-// What stands at a place of a table, and the place to go on from: that is there at a fault too, so it stands beside the Result.
+// What stands at a place of a table, and the place to go on from: `found_at` of specs/Reading.antt has it at a fault too, so it stands beside the Result.
 #[derive(Clone, Copy)]
 pub struct Found {
     pub number: Result<Item, Fault>,

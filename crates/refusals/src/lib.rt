@@ -4,8 +4,8 @@
 ghost use Rattle.std.specs.Prelude.{◌≡◌};
 ghost use Rattle.refusals.specs.Refusal.{number_of, place_of};
 
-// Success is a case, and no Ok: `check` of calls/specs/Calls.antt answers it, and `Numbers.zero_success` is said of its number.
-// A case holds its place where that is not always 0: a byte of the table, a clause, an atom or a seat, as the row says.
+// A case holds its place where that is not always 0: a byte of the table, a clause, an atom or a seat, as the row says. Success is a case, and no
+// Ok: `check` of calls/specs/Calls.antt answers it, and `Numbers.zero_success` is said of its number.
 #[derive(Clone, Copy, PartialEq, Eq, Debug)]
 pub enum Refusal {
     Success,

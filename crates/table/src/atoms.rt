@@ -10,7 +10,8 @@ use crate::tables::AtomRoom;
 use reader::Reader;
 use refusals::Refusal;
 
-// What each kind allows in its first field: nothing, or numbers below an end. Made once for a table.
+// What each kind allows in its first field: nothing, or numbers below an end. Made once for a table, in the order of
+// the kinds' numbers (see `gdl::kinds::Kind`).
 fn first_ends(h: Header) -> [Option<u32>; 10]
     ensures { result ≡ ends (first_bounds h) }
 {

@@ -10,9 +10,8 @@ use gdl::Atom;
 use reader::Reader;
 use refusals::Refusal;
 
-// The room goes with the place that it is filled up to: `clause` of specs/Table.antt counts what is left of all 8,192, and a part of the
-// room in place of both would leave its contract no plainer.
-// Reads count literals, each below end, into the room from used on.
+// Reads count literals, each below end, into the room from used on. The room goes with the place that it is filled up to: `clause` of
+// specs/Table.antt counts what is left of all 8,192, and a part of the room in place of both would leave its contract no plainer.
 #[tactic(auto, using(crate::proofs::ClauseRecords::fillings))]
 fn read_literals(
     reader: &mut Reader,

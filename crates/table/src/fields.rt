@@ -18,8 +18,8 @@ fn refusal_of(fault: Fault, at: usize) -> Refusal
     }
 }
 
-// That the table stays (`same`) is said of each function that moves a reader: an invariant of Reader cannot speak of the one before.
-// Reads a number within a range, and goes on to the place after it. A refusal names the place where it starts.
+// Reads a number within a range, and goes on to the place after it. A refusal names the place where it starts. That the table stays (`same`)
+// is said of each function that moves a reader: an invariant of Reader cannot speak of the one before.
 #[tactic(auto, unfolding(crate::specs::Parse::bounded))]
 pub fn number(reader: &mut Reader, range: Range<u32>) -> Result<u16, Refusal>
     ensures same { reader.new.table ≡ reader.old.table }

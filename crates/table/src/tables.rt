@@ -10,9 +10,8 @@ use crate::header::{Header, read_header};
 use reader::Reader;
 use refusals::Refusal;
 
-// The rooms hold arrays side by side, since `AtomsLaid` and `ClausesLaid` of specs/Says.antt say of each what it holds; their sizes are
-// fixed, since there is no heap.
-// Room for the atoms of a table: their kinds and fields, each atom at its number in all three.
+// Room for the atoms of a table: their kinds and fields, each atom at its number in all three. The rooms hold arrays side by side, since
+// `AtomsLaid` and `ClausesLaid` of specs/Says.antt say of each what it holds; their sizes are fixed, since there is no heap.
 #[derive(Drop)]
 pub struct AtomRoom {
     pub kinds: [u16; 1024],
