@@ -24,6 +24,11 @@ abbrev pub moved_from : Session → Result Session Refusal → Moved
 moved_from σ (Ok τ) = record { refusal = Success; session = τ }
 moved_from σ (Err r) = record { refusal = r; session = σ }
 
+-- the same of a record that was moved on in its place
+abbrev pub moved_in : Session → Result (Unit {0}) Refusal → Moved
+moved_in σ (Ok u) = record { refusal = Success; session = σ }
+moved_in σ (Err r) = record { refusal = r; session = σ }
+
 -- "Length, claim and the hidden answer are then 0."
 abbrev pub sent_from : Result ℕ Refusal → Sent
 sent_from (Ok n) = record { refusal = Success; length = n }

@@ -8,10 +8,10 @@ ghost use Rattle.verdict.specs.Consulted.{found, found_in};
 ghost use Rattle.calls.specs.Calls.{play};
 ghost use Rattle.answers.specs.Asked.{Asked};
 ghost use Rattle.answers.specs.Lowest.{IsLowest, Chosen, lacks, wrongs};
-ghost use Rattle.answers.specs.Outcome.{moved_from};
+ghost use Rattle.answers.specs.Outcome.{moved_in};
 
 use crate::positions::first_marks;
-use crate::shared::{going, moved_from};
+use crate::shared::going;
 use calls::Moved;
 use gdl::kinds::Kind;
 use refusals::Refusal;
@@ -36,12 +36,12 @@ fn first_illegal(choices: [u16; 8], legal: &[u8; 2048], seats: u16) -> Option<us
     (0..usize::from(seats)).find(|s| legal[*s * 256 + usize::from(choices[*s] - 1)] != 1)
 }
 
-// The next record. What was found is true with the joint choice; by rule 10 that changes neither the end nor what is legal.
-fn played(learnt: &Learnt, session: Session) -> Result<Session, Refusal>
-    requires { Asked (found learnt.now) session.position session.choices }
-    ensures { (G : Game) → Accepted G → found learnt.now ≡ found_in G (model G session.position session.choices) → moved_from session result ≡ play (fit G) session }
+// Moves a record on, where no refusal strikes. What was found is true with the joint choice; by rule 10 that changes neither the end nor what is legal.
+fn moved_on(learnt: &Learnt, session: &mut Session) -> Result<(), Refusal>
+    requires { Asked (found learnt.now) session.old.position session.old.choices }
+    ensures { (G : Game) → Accepted G → found learnt.now ≡ found_in G (model G session.old.position session.old.choices) → moved_in session.new result ≡ play (fit G) session.old }
 {
-    let limits = going(learnt, session)?;
+    let limits = going(learnt, *session)?;
     if let Some(seat) = first_unchosen(session.choices, limits.seats) {
         return Err(Refusal::NoChoice(seat));
     }
@@ -53,13 +53,11 @@ fn played(learnt: &Learnt, session: Session) -> Result<Session, Refusal>
         return Err(Refusal::LastRound);
     }
     let nexts = marks_in(learnt, Kind::Next, 1);
-    let next = Session {
-        position: first_marks(&nexts),
-        choices: [0; 8],
-        percepts: marks_in(learnt, Kind::Sees, 256),
-        round: session.round + 1,
-    };
-    Ok(next)
+    session.position = first_marks(&nexts);
+    session.choices = [0; 8];
+    session.percepts = marks_in(learnt, Kind::Sees, 256);
+    session.round += 1;
+    Ok(())
 }
 
 // "play 19, 20, 18, 22", after 21.
@@ -67,5 +65,9 @@ pub fn play_fit(learnt: &Learnt, session: Session) -> Moved
     requires { Asked (found learnt.now) session.position session.choices }
     ensures { (G : Game) → Accepted G → found learnt.now ≡ found_in G (model G session.position session.choices) → result ≡ play (fit G) session }
 {
-    moved_from(session, played(learnt, session))
+    let mut session = session;
+    let refusal = moved_on(learnt, &mut session)
+        .err()
+        .unwrap_or(Refusal::Success);
+    Moved { refusal, session }
 }

@@ -1,4 +1,4 @@
-// The tests that several calls make, and the record that offer and play answer.
+// The tests that several calls make, and what offer answers of its outcome.
 ghost use Rattle.std.specs.Prelude.{◌≡◌, List, ℕ};
 ghost use Rattle.gdl.specs.Game.{Game};
 ghost use Rattle.gdl.specs.Computed.{model};

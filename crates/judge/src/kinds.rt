@@ -6,6 +6,7 @@ ghost use Rattle.judge.specs.Arrays.{numbers};
 use gdl::kinds::Kind;
 
 // Whether the number is that of one of these kinds. By number, as the arrays hold kinds: see `gdl::kinds::Kind`.
+#[inline(always)]
 pub(super) fn one_of(these: &[Kind], kind: u16) -> bool
     ensures { result ≡ one_of (numbers these.now) kind }
 {

@@ -12,6 +12,7 @@ use edges::marks::close_back;
 use gdl::kinds::Kind;
 
 // Marks each atom that is of one of those kinds or depends on one.
+#[inline(always)]
 fn mark_resting(those: &[Kind], kinds: &[u16], edges: &Edges, marks: &mut [u8; 1024])
     requires { EdgesShaped kinds.now edges.now.from.now edges.now.to.now × (marks.old ≡ no_marks) }
     ensures { MarksOf (HeldEdges kinds.now edges.now.from.now edges.now.to.now) (numbers those.now) marks.new }
@@ -22,7 +23,9 @@ fn mark_resting(those: &[Kind], kinds: &[u16], edges: &Edges, marks: &mut [u8; 1
     close_back(edges, marks, kinds.len());
 }
 
-// The lowest atom of one of these kinds that depends on one of those, which are other kinds.
+// The lowest atom of one of these kinds that depends on one of those, which are other kinds. Inlined, with the test of a kind, so that the few kinds of
+// each call are known where every atom is asked.
+#[inline(always)]
 pub(super) fn lowest_leaning(
     these: &[Kind],
     those: &[Kind],

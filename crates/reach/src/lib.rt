@@ -53,15 +53,20 @@ pub fn reach_of(atoms: &AtomArrays, clauses: &ClauseArrays, seat: u16) -> [u8; 1
         many: 0,
     };
     seeds::sow(atoms, seat, &mut work);
+    // Filled afterwards, here and below, since a literal of anything but zeros is copied at this size.
     let mut heads = Chains {
-        first: [2048; 1024],
-        next: [2048; 2048],
+        first: [0; 1024],
+        next: [0; 2048],
     };
+    heads.first.fill(2048);
+    heads.next.fill(2048);
     bodies::index_heads(clauses.heads, &mut heads);
     let mut fluents = Chains {
-        first: [1024; 512],
-        next: [1024; 1024],
+        first: [0; 512],
+        next: [0; 1024],
     };
+    fluents.first.fill(1024);
+    fluents.next.fill(1024);
     onward::index_onward(atoms, &mut fluents);
     let steps = Steps {
         atoms: *atoms,

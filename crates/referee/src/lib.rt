@@ -17,7 +17,7 @@ use gdl::{Move, Seat};
 use refusals::Refusal;
 use session::Session;
 use session::bytes::blank_session;
-use verdict::{consult, examine, trace};
+use verdict::{consult, examine, nothing_learnt, trace};
 
 // "check": the verdict on a table.
 pub fn check(table: &[u8]) -> Refusal
@@ -46,12 +46,13 @@ pub fn claim(table: &[u8]) -> Claimed
 pub fn open_game(table: &[u8]) -> Moved
     ensures { result ≡ open_game (judge table.now) }
 {
-    match consult(table, &[0; 512], &[0; 8]) {
+    let mut learnt = nothing_learnt();
+    match consult(table, &[0; 512], &[0; 8], &mut learnt) {
         Err(refusal) => Moved {
             refusal,
             session: blank_session(),
         },
-        Ok(learnt) => open_fit(&learnt),
+        Ok(()) => open_fit(&learnt),
     }
 }
 
@@ -59,9 +60,10 @@ pub fn open_game(table: &[u8]) -> Moved
 pub fn offer(table: &[u8], session: Session, seat: Seat, choice: Move) -> Moved
     ensures { result ≡ offer (judge table.now) session seat.0 choice.0 }
 {
-    match consult(table, &session.position, &[0; 8]) {
+    let mut learnt = nothing_learnt();
+    match consult(table, &session.position, &[0; 8], &mut learnt) {
         Err(refusal) => Moved { refusal, session },
-        Ok(learnt) => offer_fit(&learnt, session, seat, choice),
+        Ok(()) => offer_fit(&learnt, session, seat, choice),
     }
 }
 
@@ -69,9 +71,10 @@ pub fn offer(table: &[u8], session: Session, seat: Seat, choice: Move) -> Moved
 pub fn hidden(table: &[u8], asking: Seat, moving: Seat, choice: Move) -> Looked
     ensures { HiddenPromise (judge table.now) asking.0 moving.0 choice.0 result }
 {
-    match trace(table, asking.0) {
+    let mut learnt = nothing_learnt();
+    match trace(table, asking.0, &mut learnt) {
         Err(refusal) => Looked { refusal, hidden: 0 },
-        Ok(learnt) => hidden_fit(&learnt, asking, moving, choice),
+        Ok(()) => hidden_fit(&learnt, asking, moving, choice),
     }
 }
 
@@ -79,9 +82,10 @@ pub fn hidden(table: &[u8], asking: Seat, moving: Seat, choice: Move) -> Looked
 pub fn model(table: &[u8], position: [u8; 512], choices: [u16; 8], room: &mut [u8]) -> Refusal
     ensures { ModelPromise (judge table.now) position choices room.old (result, room.new) }
 {
-    match consult(table, &position, &choices) {
+    let mut learnt = nothing_learnt();
+    match consult(table, &position, &choices, &mut learnt) {
         Err(refusal) => refusal,
-        Ok(learnt) => model_fit(&learnt, position, choices, room),
+        Ok(()) => model_fit(&learnt, position, choices, room),
     }
 }
 
@@ -89,9 +93,10 @@ pub fn model(table: &[u8], position: [u8; 512], choices: [u16; 8], room: &mut [u
 pub fn play(table: &[u8], session: Session) -> Moved
     ensures { result ≡ play (judge table.now) session }
 {
-    match consult(table, &session.position, &session.choices) {
+    let mut learnt = nothing_learnt();
+    match consult(table, &session.position, &session.choices, &mut learnt) {
         Err(refusal) => Moved { refusal, session },
-        Ok(learnt) => play_fit(&learnt, session),
+        Ok(()) => play_fit(&learnt, session),
     }
 }
 
@@ -99,8 +104,9 @@ pub fn play(table: &[u8], session: Session) -> Moved
 pub fn message(table: &[u8], session: Session, seat: Seat, room: &mut [u8]) -> Sent
     ensures { (result, room.new) ≡ message (judge table.now) session seat.0 room.old }
 {
-    match consult(table, &session.position, &[0; 8]) {
+    let mut learnt = nothing_learnt();
+    match consult(table, &session.position, &[0; 8], &mut learnt) {
         Err(refusal) => Sent { refusal, length: 0 },
-        Ok(learnt) => message_fit(&learnt, session, seat, room),
+        Ok(()) => message_fit(&learnt, session, seat, room),
     }
 }

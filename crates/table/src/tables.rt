@@ -12,7 +12,7 @@ use refusals::Refusal;
 
 // Room for the atoms of a table: their kinds and fields, each atom at its number in all three. The rooms hold arrays side by side, since
 // `AtomsLaid` and `ClausesLaid` of specs/Says.antt say of each what it holds; their sizes are fixed, since there is no heap.
-#[derive(Drop)]
+#[derive(Clone, Copy)]
 pub struct AtomRoom {
     pub kinds: [u16; 1024],
     pub firsts: [u16; 1024],

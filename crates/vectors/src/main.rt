@@ -8,7 +8,6 @@ mod run; // the two files, line by line
 use run::{Sources, run_files};
 use std::env::Env;
 use std::fs;
-use std::io::Write;
 use std::rt::Files;
 
 // Opens the file that an argument names; none where it cannot be opened, which is told.
@@ -36,5 +35,5 @@ fn main(rt: HostRuntime) {
     };
     let mut output = rt.stdout();
     let tally = run_files(&rt, &mut output, &mut Sources { lines, answers });
-    let _ = writeln!(output, "{tally}");
+    tally.tell(&mut output);
 }

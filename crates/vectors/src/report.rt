@@ -1,5 +1,4 @@
 // What is told: how many lines were compared, how many answers differ, and the first that does.
-use std::fmt;
 use std::io::Write;
 
 #[derive(Clone, Copy)]
@@ -36,10 +35,9 @@ impl Tally {
         }
         self.differ = self.differ.saturating_add(1);
     }
-}
 
-impl fmt::Display for Tally {
-    fn fmt<W: fmt::Write>(&self, f: &mut fmt::Formatter<W>) -> fmt::Result {
-        write!(f, "{} lines, {} differ", self.lines, self.differ)
+    // One line, in the end.
+    pub fn tell<W: Write>(&self, output: &mut W) {
+        let _ = writeln!(output, "{} lines, {} differ", self.lines, self.differ);
     }
 }

@@ -38,10 +38,18 @@ pub record Accepts (v : Verdict) (flags_of : Game → List ℕ) (c : Consulted) 
   pub verdict : v ≡ fit game
   pub is : c ≡ found_in game (flags_of game)
 
--- what an answer says of the verdict and of what was found
-abbrev pub Learns : Verdict → (Game → List ℕ) → Result Learnt Refusal → Type 0
-Learns v flags_of (Ok l) = Accepts v flags_of (found l)
-Learns v flags_of (Err f) = v ≡ unfit f
+-- what an answer says of the verdict and of what is then learnt
+abbrev pub Learns : Verdict → (Game → List ℕ) → Result (Unit {0}) Refusal → Learnt → Type 0
+Learns v flags_of (Ok u) l = Accepts v flags_of (found l)
+Learns v flags_of (Err f) l = v ≡ unfit f
+
+-- before anything is learnt: no table, and blank places
+abbrev pub nothing_learnt : Learnt
+nothing_learnt = record {
+  header = record { players = record { claim = 0; seats = 0; chance = 0 }; sizes = record { fluents = 0; moves = 0; percepts = 0; atoms = 0 } };
+  atoms = record { kinds = blank 1024; firsts = blank 1024; seconds = blank 1024 };
+  flags = blank 1024;
+}
 
 -- an accepted table was consulted
 pub record Fit (c : Consulted) : Type 0 where

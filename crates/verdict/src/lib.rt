@@ -9,14 +9,14 @@ ghost use Rattle.gdl.specs.Computed.{model, reach_of};
 ghost use Rattle.rules.specs.Judged.{judge};
 ghost use Rattle.table.specs.Says.{blank_arrays};
 ghost use Rattle.truth.specs.Marks.{marks_of};
-ghost use Rattle.verdict.specs.Consulted.{found, found_in, Learns, examined, Fit};
+ghost use Rattle.verdict.specs.Consulted.{found, found_in, nothing_learnt, Learns, examined, Fit};
 ghost use Rattle.verdict.specs.Laid.{AtomsUsed, ClausesUsed};
 ghost use Rattle.verdict.specs.Weighed.{Weighs};
 
 use gdl::arrays::{AtomArrays, ClauseArrays};
 use gdl::kinds::Kind;
 use refusals::Refusal;
-use table::header::Header;
+use table::header::{Header, Players, Sizes};
 use table::tables::{Arrays, AtomRoom, ClauseRoom, Read, blank_arrays, read_table};
 
 // The atoms of a table, of the room that holds them.
@@ -68,12 +68,40 @@ fn weigh(s: &[u8], arrays: &mut Arrays, levels: &mut [u16; 1024]) -> Result<Weig
     Ok(Weighed { read, top })
 }
 
-// What a call learns from an accepted table: its header, its atoms, and a flag for each.
-#[derive(Drop)]
+// What a call learns from an accepted table: its header, its atoms, and a flag for each. It is lent to `consult` and `trace`, which write it: 7 KB that a
+// function answered would be copied on the way.
+#[derive(Clone, Copy)]
 pub struct Learnt {
     pub header: Header,
     pub atoms: AtomRoom,
     pub flags: [u8; 1024],
+}
+
+// Nothing is learnt yet.
+pub fn nothing_learnt() -> Learnt
+    ensures { result ≡ nothing_learnt }
+{
+    Learnt {
+        header: Header {
+            players: Players {
+                claim: 0,
+                seats: 0,
+                chance: 0,
+            },
+            sizes: Sizes {
+                fluents: 0,
+                moves: 0,
+                percepts: 0,
+                atoms: 0,
+            },
+        },
+        atoms: AtomRoom {
+            kinds: [0; 1024],
+            firsts: [0; 1024],
+            seconds: [0; 1024],
+        },
+        flags: [0; 1024],
+    }
 }
 
 // The verdict on a table and, where it is accepted, the model of a position and a joint choice.
@@ -81,20 +109,19 @@ pub fn consult<'s>(
     s: &[u8],
     position: &'s [u8; 512],
     choices: &'s [u16; 8],
-) -> Result<Learnt, Refusal>
-    ensures { Learns (judge s.now) (λ G. model G position.now choices.now) result }
+    learnt: &mut Learnt,
+) -> Result<(), Refusal>
+    ensures { Learns (judge s.now) (λ G. model G position.now choices.now) result learnt.new }
 {
     let mut arrays = blank_arrays();
     let mut levels = [0; 1024];
     let weighed = weigh(s, &mut arrays, &mut levels)?;
     let atoms = used_atoms(&arrays.atoms, weighed.read.header.sizes.atoms);
     let clauses = used_clauses(&arrays.clauses, weighed.read.clauses);
-    let flags = truth::model_of(position, choices, &atoms, &clauses, &levels, weighed.top);
-    Ok(Learnt {
-        header: weighed.read.header,
-        atoms: arrays.atoms,
-        flags,
-    })
+    learnt.flags = truth::model_of(position, choices, &atoms, &clauses, &levels, weighed.top);
+    learnt.header = weighed.read.header;
+    learnt.atoms = arrays.atoms;
+    Ok(())
 }
 
 // The verdict on a table, and its header.
@@ -118,18 +145,16 @@ pub fn marks_in(learnt: &Learnt, kind: Kind, width: usize) -> [u8; 2048]
 
 // The verdict on a table and, where it is accepted, the reach of a seat. It stays beside `consult`: one function over a closure would have to
 // say what the closure may be asked of the arrays, which is longer than the lines that the two have in common.
-pub fn trace(s: &[u8], seat: u16) -> Result<Learnt, Refusal>
-    ensures { Learns (judge s.now) (λ G. reach_of G seat) result }
+pub fn trace(s: &[u8], seat: u16, learnt: &mut Learnt) -> Result<(), Refusal>
+    ensures { Learns (judge s.now) (λ G. reach_of G seat) result learnt.new }
 {
     let mut arrays = blank_arrays();
     let mut levels = [0; 1024];
     let weighed = weigh(s, &mut arrays, &mut levels)?;
     let atoms = used_atoms(&arrays.atoms, weighed.read.header.sizes.atoms);
     let clauses = used_clauses(&arrays.clauses, weighed.read.clauses);
-    let flags = reach::reach_of(&atoms, &clauses, seat);
-    Ok(Learnt {
-        header: weighed.read.header,
-        atoms: arrays.atoms,
-        flags,
-    })
+    learnt.flags = reach::reach_of(&atoms, &clauses, seat);
+    learnt.header = weighed.read.header;
+    learnt.atoms = arrays.atoms;
+    Ok(())
 }
