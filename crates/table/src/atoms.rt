@@ -1,5 +1,5 @@
 // Atom records: a kind and its fields, in strictly ascending order.
-ghost use Rattle.std.specs.Prelude.{◌≡◌, ◌≤◌, ◌<◌, ltb};
+ghost use Rattle.std.specs.Prelude.{◌≡◌, ◌≤◌, ◌<◌};
 ghost use Rattle.table.specs.declared.header.Header.{Header};
 ghost use Rattle.table.specs.Table.{Bound, first_bounds, second_bounds, field, atom, atoms_from};
 ghost use Rattle.table.specs.Says.{says, end_of, ends, EndsOf, atom_says, key_of, WroteAtoms};
@@ -90,12 +90,12 @@ fn read_atom(
     })
 }
 
-// Is an atom further on in the order than one before? The page's `key` is that order as one number.
+// The place of an atom in the order, as one number: the page's `key`.
 #[tactic(auto, unfolding(crate::specs::Table::key))]
-fn is_above(a: AtomRecord, b: AtomRecord) -> bool
-    ensures { result ≡ ltb (key_of b) (key_of a) }
+fn key(a: AtomRecord) -> u64
+    ensures { (result ≡ key_of a) × (result < 281474976710656) }
 {
-    a > b
+    u64::from(a.kind) * 4294967296 + u64::from(a.first) * 65536 + u64::from(a.second)
 }
 
 // Reads the atom records into lent room.
@@ -107,17 +107,18 @@ pub fn read_atoms(reader: &mut Reader, h: Header, room: &mut AtomRoom) -> Result
 {
     let first_ends = first_ends(h);
     let second_ends = second_ends(h);
-    let mut last: Option<AtomRecord> = None;
+    let mut least = 0; // the order is asked by one number, since three comparisons an atom are dearer
     for k in 0..usize::from(h.sizes.atoms) {
         let start = reader.at;
         let a = read_atom(reader, &first_ends, &second_ends)?;
-        if last.is_some_and(|b| !is_above(a, b)) {
+        let place = key(a);
+        if place < least {
             return Err(Refusal::NotAbove(start));
         }
         room.kinds[k] = a.kind;
         room.firsts[k] = a.first;
         room.seconds[k] = a.second;
-        last = Some(a);
+        least = place + 1;
     }
     Ok(())
 }

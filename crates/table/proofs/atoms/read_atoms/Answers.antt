@@ -12,8 +12,8 @@ returns-in_err-a-clause-says c =
     let p = err_from_is_err_and c.from_residual.result c.from_residual.ensures.1 in
     rw (p.1, p.2) (reading_fault c.loop-k.invariant (omega arith) _ read)
 
-pub returns-then-is_some_and-clause-says : goal.returns-then-is_some_and-clause-says
-returns-then-is_some_and-clause-says c =
+pub returns-then-place-least-clause-says : goal.returns-then-place-least-clause-says
+returns-then-place-least-clause-says c =
     let read = c.in_ok-a.ensures.says c.args.h (both_ends c.args.h _ _ c.first_ends-first_ends.ensures c.second_ends-second_ends.ensures) in
     reading_low c.loop-k.invariant (omega arith) c.read_atom.new.reader read (search rules)
 

@@ -3,4 +3,4 @@ use Rattle.table.proofs.AtomRecords.{Reading}
 use Rattle.table.proofs.atoms.read_atoms.Given as goal
 
 abbrev pub invariant-loop-k : goal.invariant-loop-k
-invariant-loop-k l = Reading l.fn.h l.fn.h.sizes.atoms l.initial.reader l.initial.room l.room l.k l.last l.reader
+invariant-loop-k l = Reading l.fn.h l.fn.h.sizes.atoms l.initial.reader l.initial.room l.room l.k l.least l.reader
