@@ -63,8 +63,7 @@ fn read_optional(reader: &mut Reader, end: Option<u32>) -> Result<u16, Refusal>
     }
 }
 
-// The order of records is that of kinds, then first fields, then second.
-#[derive(Clone, Copy, PartialEq, Eq, PartialOrd, Ord)]
+#[derive(Clone, Copy)]
 pub struct AtomRecord {
     pub kind: u16,
     pub first: u16,
@@ -98,7 +97,9 @@ fn key(a: AtomRecord) -> u64
     u64::from(a.kind) * 4294967296 + u64::from(a.first) * 65536 + u64::from(a.second)
 }
 
-// Reads the atom records into lent room.
+// Reads the atom records into lent room. It is compiled apart from its caller: among all else that a verdict keeps at hand this loop would find no
+// registers left.
+#[inline(never)]
 #[tactic(auto, using(crate::proofs::AtomRecords::readings))]
 pub fn read_atoms(reader: &mut Reader, h: Header, room: &mut AtomRoom) -> Result<(), Refusal>
     requires { h.sizes.atoms ≤ 1024 }
